@@ -1,0 +1,27 @@
+//! The two answers that every layer shares: an object outside failed, and memory ran out.
+#![tactic(auto)]
+
+use std::alloc::{AllocError, AllocFailed};
+use thiserror::Error;
+
+/// A source, a sink or a disk failed. Its count of faults rose in the call that answers this.
+#[derive(Clone, Copy, Debug, PartialEq, Eq, Error)]
+#[error("the device failed")]
+pub struct Failed;
+
+/// No memory was found. The one answer that no contract ties to a cause.
+#[derive(Clone, Copy, Debug, PartialEq, Eq, Error)]
+#[error("out of memory")]
+pub struct OutOfMemory;
+
+impl From<AllocError> for OutOfMemory {
+    fn from(_: AllocError) -> OutOfMemory {
+        OutOfMemory
+    }
+}
+
+impl<T: Drop> From<AllocFailed<T>> for OutOfMemory {
+    fn from(_: AllocFailed<T>) -> OutOfMemory {
+        OutOfMemory
+    }
+}

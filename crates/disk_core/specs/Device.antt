@@ -1,0 +1,31 @@
+-- What the calls on a disk that tells its bytes do to them.
+use Rattle.std.specs.Prelude.{◌≡◌, ℕ, ◌+◌, ◌≤◌, max, List, ◌++◌, length, take, drop, ⊤, Option, None, Some, IsSomeAnd, Result, Ok, Err}
+
+-- the bytes with others written at a place, over what is there and past the end
+abbrev pub written : ℕ → List ℕ → List ℕ → List ℕ
+written at bytes old = take at old ++ bytes ++ drop (at + length bytes) old
+
+-- after a write of n bytes that didn't come to its end: any bytes in the range, which may reach past the old end; all else stays
+pub record Torn (at n : ℕ) (old new : List ℕ) : Type 0 where
+  pub before : take at new ≡ take at old
+  pub after : drop (at + n) new ≡ drop (at + n) old
+  pub no_shorter : length old ≤ length new
+  pub no_longer : length new ≤ max (length old) (at + n)
+
+-- what a write does: Ok has written all bytes, Err may have written any of the range
+abbrev pub Writes : {T E : Type 0} → Option (List ℕ) → ℕ → List ℕ → Result T E → Option (List ℕ) → Type 0
+Writes None at bytes result after = after ≡ None
+Writes (Some old) at bytes (Ok _) after = after ≡ Some (written at bytes old)
+Writes (Some old) at bytes (Err _) after = IsSomeAnd after (Torn at (length bytes) old)
+
+-- what a read into a piece gives: at Ok the bytes from that place on
+abbrev pub Reads : {T E : Type 0} → Option (List ℕ) → ℕ → Result T E → List ℕ → Type 0
+Reads None at result piece = ⊤
+Reads (Some bytes) at (Ok _) piece = piece ≡ take (length piece) (drop at bytes)
+Reads (Some bytes) at (Err _) piece = ⊤
+
+-- what a question for the size answers: at Ok how many bytes there are
+abbrev pub Measures : {E : Type 0} → Option (List ℕ) → Result ℕ E → Type 0
+Measures None result = ⊤
+Measures (Some bytes) (Ok n) = n ≡ length bytes
+Measures (Some bytes) (Err _) = ⊤

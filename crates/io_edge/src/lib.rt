@@ -1,0 +1,17 @@
+//! Where bytes come in and go out: sources, sinks and the words of a command line.
+#![tactic(auto)]
+
+mod memory;
+mod sink;
+mod source;
+mod standard;
+#[cfg(test)]
+mod tests;
+mod word;
+
+pub use causes::{Failed, OutOfMemory};
+pub use memory::{MemSink, MemSource};
+pub use sink::Sink;
+pub use source::Source;
+pub use standard::{StdSink, StdSource};
+pub use word::Word;

@@ -1,0 +1,89 @@
+// Standard input and output. They tell no bytes, and count their faults.
+ghost use Rattle.std.specs.Prelude.{◌≡◌, ◌≤◌, None, length, IfOk, OnOk};
+ghost use Rattle.causes.specs.Causes.{HasCause};
+
+use crate::{Failed, Sink, Source};
+use std::io::{ErrorKind, Read, Stdin, Stdout, Write};
+
+/// Standard input. A read that a signal interrupts is made again.
+#[derive(Drop)]
+pub struct StdSource {
+    input: Stdin,
+    faults: u64,
+}
+
+impl StdSource {
+    pub fn new(input: Stdin) -> StdSource {
+        StdSource { input, faults: 0 }
+    }
+}
+
+/// Standard output. A write that a signal interrupts, or that takes a part, is gone on with.
+#[derive(Drop)]
+pub struct StdSink {
+    output: Stdout,
+    faults: u64,
+}
+
+impl StdSink {
+    pub fn new(output: Stdout) -> StdSink {
+        StdSink { output, faults: 0 }
+    }
+}
+
+impl Source for StdSource {
+    ghost content = { λ _. None };
+
+    ghost faults = { λ s. s.faults };
+
+    fn pull(&mut self, into: &mut [u8]) -> Result<usize, Failed> {
+        let pulled = read_some(self.input, into);
+        if pulled.is_err() {
+            self.faults = self.faults.saturating_add(1);
+        }
+        pulled
+    }
+}
+
+fn read_some(mut input: Stdin, into: &mut [u8]) -> Result<usize, Failed>
+    ensures { IfOk result (λ n. n ≤ length into.new) }
+{
+    for _ in 0..u64::MAX {
+        match input.read(into) {
+            Ok(n) => return Ok(n),
+            Err(e) if e.kind() == ErrorKind::Interrupted => {}
+            Err(_) => return Err(Failed),
+        }
+    }
+    Err(Failed)
+}
+
+impl Sink for StdSink {
+    ghost taken = { λ _. None };
+
+    ghost faults = { λ s. s.faults };
+
+    fn push(&mut self, bytes: &[u8]) -> Result<(), Failed> {
+        let pushed = write_all(self.output, bytes);
+        if pushed.is_err() {
+            self.faults = self.faults.saturating_add(1);
+        }
+        pushed
+    }
+}
+
+fn write_all(mut output: Stdout, bytes: &[u8]) -> Result<(), Failed> {
+    let mut rest = bytes;
+    for _ in 0..u64::MAX {
+        if rest.is_empty() {
+            return Ok(());
+        }
+        match output.write(rest) {
+            Ok(0) => return Err(Failed),
+            Ok(n) => rest = &rest[n..],
+            Err(e) if e.kind() == ErrorKind::Interrupted => {}
+            Err(_) => return Err(Failed),
+        }
+    }
+    Err(Failed)
+}
