@@ -1,5 +1,6 @@
 -- What the calls on a disk that tells its bytes do to them.
-use Rattle.std.specs.Prelude.{◌≡◌, ℕ, ◌+◌, ◌≤◌, max, List, ◌++◌, length, take, drop, ⊤, Option, None, Some, IsSomeAnd, Result, Ok, Err}
+use Rattle.std.specs.Prelude.{◌≡◌, ℕ, ◌+◌, ◌≤◌, max, List, ◌++◌, length, take, drop, Option, None, MatchOption, IfSome, IsSomeAnd, Result, Ok, Err, IfOk, OnOk}
+use Rattle.std.specs.Option.{option_map}
 
 -- the bytes with others written at a place, over what is there and past the end
 abbrev pub written : ℕ → List ℕ → List ℕ → List ℕ
@@ -14,18 +15,13 @@ pub record Torn (at n : ℕ) (old new : List ℕ) : Type 0 where
 
 -- what a write does: Ok has written all bytes, Err may have written any of the range
 abbrev pub Writes : {T E : Type 0} → Option (List ℕ) → ℕ → List ℕ → Result T E → Option (List ℕ) → Type 0
-Writes None at bytes result after = after ≡ None
-Writes (Some old) at bytes (Ok _) after = after ≡ Some (written at bytes old)
-Writes (Some old) at bytes (Err _) after = IsSomeAnd after (Torn at (length bytes) old)
+Writes before at bytes (Ok _) after = after ≡ option_map (written at bytes) before
+Writes before at bytes (Err _) after = MatchOption before (after ≡ None) (λ old. IsSomeAnd after (Torn at (length bytes) old))
 
 -- what a read into a piece gives: at Ok the bytes from that place on
 abbrev pub Reads : {T E : Type 0} → Option (List ℕ) → ℕ → Result T E → List ℕ → Type 0
-Reads None at result piece = ⊤
-Reads (Some bytes) at (Ok _) piece = piece ≡ take (length piece) (drop at bytes)
-Reads (Some bytes) at (Err _) piece = ⊤
+Reads content at result piece = OnOk result (IfSome content (λ bytes. piece ≡ take (length piece) (drop at bytes)))
 
 -- what a question for the size answers: at Ok how many bytes there are
 abbrev pub Measures : {E : Type 0} → Option (List ℕ) → Result ℕ E → Type 0
-Measures None result = ⊤
-Measures (Some bytes) (Ok n) = n ≡ length bytes
-Measures (Some bytes) (Err _) = ⊤
+Measures content result = IfOk result (λ n. IfSome content (λ bytes. n ≡ length bytes))

@@ -1,5 +1,5 @@
 -- What a source that tells its content has given and has left, and what one pull does to it.
-use Rattle.std.specs.Prelude.{◌≡◌, ℕ, ◌<◌, ◌≤◌, List, [], ◌++◌, length, take, drop, Option, None, Some, IsSomeAnd, Result, Ok, Err}
+use Rattle.std.specs.Prelude.{◌≡◌, ℕ, ◌<◌, ◌≤◌, List, [], ◌++◌, length, take, drop, Option, None, MatchOption, IsSomeAnd, Result, Ok, Err}
 
 -- the bytes given so far, and those still to come
 pub record Content : Type 0 where
@@ -19,6 +19,5 @@ pub record Gives (n : ℕ) (piece : List ℕ) (before after : Content) : Type 0 
 
 -- what one pull into a piece does: Ok gives the next bytes, Err gives nothing
 abbrev pub Pulls : {E : Type 0} → Option Content → Result ℕ E → List ℕ → Option Content → Type 0
-Pulls None result piece after = after ≡ None
-Pulls (Some before) (Ok n) piece after = IsSomeAnd after (Gives n piece before)
-Pulls (Some before) (Err e) piece after = after ≡ Some before
+Pulls before (Ok n) piece after = MatchOption before (after ≡ None) (λ content. IsSomeAnd after (Gives n piece content))
+Pulls before (Err e) piece after = after ≡ before
