@@ -1,9 +1,15 @@
-//! One file of a database as the engine sees it, and the files of a store by their names.
+//! One file of a database as the engine sees it, in memory or of the system, and the files of a store by their names.
 #![tactic(auto)]
 
 mod disk;
+mod file;
+mod memory;
 mod store;
+#[cfg(test)]
+mod tests;
 
 pub use causes::{Failed, OutOfMemory};
 pub use disk::Disk;
+pub use file::FileDisk;
+pub use memory::MemDisk;
 pub use store::{FileName, LaneDisks, Store};

@@ -1,0 +1,6 @@
+-- A file of the system: whether it is one that can't be opened or made, and how many calls failed.
+use Rattle.std.specs.Prelude.{ℕ, Bool}
+
+pub record FileView : Type 0 where
+  pub missing : Bool
+  pub faults : ℕ

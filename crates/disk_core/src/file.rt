@@ -1,0 +1,142 @@
+// A file of the system. It tells no bytes, and counts its faults.
+ghost use Rattle.std.specs.Prelude.{◌≡◌, None, true, length, IsTrue, IsNone, IsErr};
+ghost use Rattle.causes.specs.Causes.{HasCause};
+ghost use Rattle.disk_core.specs.Memory.{faults_after};
+
+use crate::{Disk, Failed};
+use std::fs::File;
+use std::marker::Model;
+use std::os::unix::fs::FileExt;
+
+/// A file of the system, read and written at places. A call that a signal interrupts is made again, and one that
+/// reads or writes a part is gone on with.
+#[derive(Drop)]
+pub struct FileDisk {
+    file: Option<File>,
+    faults: u64,
+}
+
+impl Model for FileDisk {
+    ghost use Rattle.std.specs.Prelude.{is_none};
+    ghost use Rattle.disk_core.specs.File.{FileView};
+
+    ghost Value = { FileView };
+
+    ghost view = { λ f. record { missing = is_none f.file; faults = f.faults } };
+}
+
+impl FileDisk {
+    /// Brings to the disk what was written to the file before, so that nothing is pending. Where that fails the file
+    /// counts as missing.
+    pub fn new(file: File) -> FileDisk
+        ensures { result.faults ≡ 0 }
+    {
+        let file = Some(file);
+        match sync_data(&file) {
+            Ok(()) => FileDisk { file, faults: 0 },
+            Err(Failed) => FileDisk::missing(),
+        }
+    }
+
+    /// Stands for a file that can't be opened or made: each call of it answers `Failed`.
+    pub fn missing() -> FileDisk
+        ensures { result ≡ record { missing = true; faults = 0 } }
+    {
+        FileDisk {
+            file: None,
+            faults: 0,
+        }
+    }
+
+    fn counted<T>(&mut self, answer: Result<T, Failed>) -> Result<T, Failed>
+        ensures answer { result ≡ answer }
+        ensures cause { HasCause self.old.faults self.new.faults answer }
+        ensures counted { self.new ≡ record self.old { faults = faults_after answer self.old.faults } }
+    {
+        if answer.is_err() {
+            self.faults = self.faults.saturating_add(1);
+        }
+        answer
+    }
+}
+
+fn length_of(file: &Option<File>) -> Result<u64, Failed>
+    ensures missing { IsNone file.now → IsErr result }
+{
+    let file = file.as_ref().ok_or(Failed)?;
+    let metadata = file.metadata().map_err(|_| Failed)?;
+    Ok(metadata.len())
+}
+
+fn read_exact(file: &Option<File>, at: u64, into: &mut [u8]) -> Result<(), Failed>
+    ensures missing { IsNone file.now → IsErr result }
+{
+    let file = file.as_ref().ok_or(Failed)?;
+    at.checked_add(into.len() as u64).ok_or(Failed)?;
+    file.read_exact_at(into, at).map_err(|_| Failed)
+}
+
+fn write_all(file: &Option<File>, at: u64, bytes: &[u8]) -> Result<(), Failed>
+    ensures missing { IsNone file.now → IsErr result }
+{
+    let file = file.as_ref().ok_or(Failed)?;
+    at.checked_add(bytes.len() as u64).ok_or(Failed)?;
+    file.write_all_at(bytes, at).map_err(|_| Failed)
+}
+
+fn sync_data(file: &Option<File>) -> Result<(), Failed>
+    ensures missing { IsNone file.now → IsErr result }
+{
+    let file = file.as_ref().ok_or(Failed)?;
+    file.sync_data().map_err(|_| Failed)
+}
+
+impl Disk for FileDisk {
+    ghost content = { λ _. None };
+
+    ghost faults = { λ f. f.faults };
+
+    fn size(&mut self) -> Result<u64, Failed>
+        ensures cause { HasCause self.old.faults self.new.faults result }
+
+        // A missing file answers nothing else, and each fault is counted once.
+        ensures missing { IsTrue self.old.missing → IsErr result }
+        ensures counted { self.new ≡ record self.old { faults = faults_after result self.old.faults } }
+    {
+        let length = length_of(&self.file);
+        self.counted(length)
+    }
+
+    fn read_at(&mut self, at: u64, into: &mut [u8]) -> Result<(), Failed>
+        ensures cause { HasCause self.old.faults self.new.faults result }
+
+        // A missing file answers nothing else, and each fault is counted once.
+        ensures missing { IsTrue self.old.missing → IsErr result }
+        ensures counted { self.new ≡ record self.old { faults = faults_after result self.old.faults } }
+    {
+        let read = read_exact(&self.file, at, into);
+        self.counted(read)
+    }
+
+    fn write_at(&mut self, at: u64, bytes: &[u8]) -> Result<(), Failed>
+        ensures cause { HasCause self.old.faults self.new.faults result }
+
+        // A missing file answers nothing else, and each fault is counted once.
+        ensures missing { IsTrue self.old.missing → IsErr result }
+        ensures counted { self.new ≡ record self.old { faults = faults_after result self.old.faults } }
+    {
+        let written = write_all(&self.file, at, bytes);
+        self.counted(written)
+    }
+
+    fn sync(&mut self) -> Result<(), Failed>
+        ensures cause { HasCause self.old.faults self.new.faults result }
+
+        // A missing file answers nothing else, and each fault is counted once.
+        ensures missing { IsTrue self.old.missing → IsErr result }
+        ensures counted { self.new ≡ record self.old { faults = faults_after result self.old.faults } }
+    {
+        let synced = sync_data(&self.file);
+        self.counted(synced)
+    }
+}

@@ -1,0 +1,56 @@
+// What no clause says: that the calls succeed with ample memory, and what a file of the system gives.
+use super::*;
+use std::fs;
+use std::fs::File;
+use std::test::Fail;
+
+#[test]
+fn a_disk_in_memory_keeps_what_is_written_and_fails_where_it_is_told(
+    rt: HostRuntime,
+) -> Result<(), Fail> {
+    let alloc = rt.alloc();
+    let bytes = b"abcd".to_vec(alloc)?;
+    let mut disk = MemDisk::new(alloc, bytes, 64 + 6 + 64 + 64 + 64 + 64)?.failing(
+        vec![in alloc; 2, 4]?,
+        vec![in alloc; 3]?,
+    );
+    assert_eq!(rt; disk.size(), Ok(4));
+    assert_eq!(rt; disk.write_at(2, b"xyz"), Ok(()));
+    assert_eq!(rt; disk.write_at(0, b""), Err(Failed));
+    assert_eq!(rt; disk.sync(), Ok(()));
+    assert_eq!(rt; disk.sync(), Err(Failed));
+    let mut piece = [0; 2];
+    assert_eq!(rt; disk.read_at(3, &mut piece), Ok(()));
+    assert_eq!(rt; piece, *b"yz");
+    assert_eq!(rt; disk.size(), Err(Failed));
+    assert_eq!(rt; disk.size(), Ok(5));
+    assert_eq!(rt; disk.write_at(0, b"a"), Err(Failed));
+    assert_eq!(rt; disk.sync(), Ok(()));
+    assert_eq!(rt; disk.sync(), Err(Failed));
+    assert_eq!(rt; disk.bytes(), b"abxyz".as_slice());
+    Ok(())
+}
+
+#[test]
+fn a_file_keeps_what_is_written(rt: HostRuntime) -> Result<(), Fail> {
+    let path = "a_file_of_a_test";
+    fs::write(&rt, path, "abcd")?;
+    let file = File::options().read(true).write(true).open(&rt, path)?;
+    let mut disk = FileDisk::new(file);
+    let mut piece = [0; 3];
+    assert_eq!(rt; disk.size(), Ok(4));
+    assert_eq!(rt; disk.write_at(2, b"xyz"), Ok(()));
+    assert_eq!(rt; disk.sync(), Ok(()));
+    assert_eq!(rt; disk.size(), Ok(5));
+    assert_eq!(rt; disk.read_at(2, &mut piece), Ok(()));
+    assert_eq!(rt; piece, *b"xyz");
+    for (at, want) in [(3, Err(Failed)), (u64::MAX, Err(Failed)), (1, Ok(()))] {
+        assert_eq!(rt; disk.read_at(at, &mut piece), want, "at {at}");
+    }
+    assert_eq!(rt; disk.write_at(u64::MAX, b"xyz"), Err(Failed));
+    assert_eq!(rt; fs::read(&rt, path)?.as_slice(), b"abxyz".as_slice());
+    fs::remove_file(&rt, path)?;
+    let mut missing = FileDisk::missing();
+    assert_eq!(rt; missing.size(), Err(Failed));
+    Ok(())
+}
