@@ -1,0 +1,52 @@
+// The bytes of a lane file from outside, and the calls after a disk fault.
+use crate::{FileName, LaneFault, LaneWriter};
+use disk_core::MemDisk;
+use std::alloc::Global;
+use std::test::Fail;
+
+const LANE: [u8; 33] = [
+    1, 2, 0, 0, 0, 0, 0, 0, 0, 0, 0, 1, 16, 0, 0, 0, 1, 0, 0, 0, 0, 0, 0, 0, 10, 0, 0, 0, 0, 0, 0,
+    0, 0,
+];
+
+const FRAME: [u8; 21] = [
+    7, 7, 7, 7, 1, 0, 0, 0, 0, 0, 0, 0, 10, 0, 0, 0, 0, 0, 0, 0, 7,
+];
+
+fn first_batch(writer: &mut LaneWriter<MemDisk>) -> Result<(), LaneFault> {
+    let mut frame = FRAME;
+    writer.close(2)?;
+    writer.reset(2)?;
+    writer.force(&mut frame)
+}
+
+/// A disk whose change call of this number fails.
+fn disk(alloc: Global, failing: u64) -> Result<MemDisk, Fail> {
+    let disk = MemDisk::new(alloc, Vec::new(alloc), 4096)?;
+    Ok(disk.failing(vec![in alloc; failing]?, Vec::new(alloc)))
+}
+
+#[test]
+fn a_fault_is_kept_and_ten_change_calls_make_the_first_batch(rt: HostRuntime) -> Result<(), Fail> {
+    let file = FileName::Lane {
+        lane: 0,
+        odd: false,
+    };
+    for failing in 1..12 {
+        let mut writer = LaneWriter::adopt(disk(rt.alloc(), failing)?, 0);
+        let made = first_batch(&mut writer);
+        if failing > 10 {
+            assert_eq!(rt; made, Ok(()));
+            assert_eq!(rt; writer.into_disk().bytes(), LANE.as_slice());
+        } else {
+            assert_eq!(rt; made, Err(LaneFault::Disk { file }), "at {failing}");
+            assert_eq!(rt;
+                writer.close(2),
+                Err(LaneFault::Closed { file }),
+                "at {failing}"
+            );
+            drop(writer.into_disk());
+        }
+    }
+    Ok(())
+}
