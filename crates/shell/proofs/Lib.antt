@@ -1,0 +1,11 @@
+pub mod Numbers
+pub mod Words
+pub mod Regroup
+pub mod Printing
+pub mod Showing
+pub mod Reading
+pub mod Faults
+pub mod Lines
+pub mod Pairs
+pub mod Answering
+pub mod Statuses

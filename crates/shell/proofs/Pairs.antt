@@ -1,0 +1,81 @@
+-- How the pairs change by an insert, in the plain list, in the map and in the log file.
+use Rattle.std.proofs.Common.{◌≡◌, ◌⊎◌, inl, inr, ℕ, ◌+◌, ◌*◌, ◌<◌, ◌≤◌, ℤ, Bool, true, false, cond, List, [], ◌∷◌, ◌++◌, length, map, Option, Some, None, is_some, refl, sym, ◌∙◌, ap, subst, arith, Decides, int_cmp}
+use Rattle.std.specs.Ordering.{int_eq}
+use Rattle.std.specs.BTreeMap.{get, btree_map_len}
+use Rattle.std.proofs.lemmas.Bool.Decides.{Decides-int_eq, nat_tests}
+use Rattle.std.proofs.lemmas.List.{length-append, map-append}
+use Rattle.lane_format.specs.Writer.{Holds, lane_of, stage_of}
+use Rattle.lane_format.specs.declared.writer.Stage.TheVariants.{Open}
+use Rattle.shell.specs.Kv.{Pairs, value_of, used_bytes, is_full, reply_to, pairs_after, pair_body}
+use Rattle.shell.specs.Keeping.{Keeps}
+use Rattle.shell.specs.declared.reply.Reply.TheVariants.{Inserted, LogFull}
+use Rattle.shell.specs.declared.statement.Statement.TheVariants.{Insert}
+use Rattle.shell.specs.declared.session.Session.{Session}
+
+eq_cases : (x y : ℤ) → ((x ≡ y) × (int_eq x y ≡ true)) ⊎ ((x ≡ y → ⊥) × (int_eq x y ≡ false))
+eq_cases x y = go (int_eq x y) refl (Decides-int_eq x y)
+  where
+    go : (b : Bool) → int_eq x y ≡ b → Decides (int_eq x y) (x ≡ y) → ((x ≡ y) × (int_eq x y ≡ true)) ⊎ ((x ≡ y → ⊥) × (int_eq x y ≡ false))
+    go true e d = inl (d.0 e, e)
+    go false e d = inr (λ same. let t : true ≡ false = sym (d.1 same) ∙ e in cc, e)
+
+absent_rest : (pair : ℤ × ℤ) (pairs : Pairs) (key : ℤ) → value_of (pair ∷ pairs) key ≡ None → (int_eq key pair.0 ≡ false) × (value_of pairs key ≡ None)
+absent_rest pair pairs key absent = elim (eq_cases key pair.0) [
+  | inl here ↦ absurd (let some : Some pair.1 ≡ None = rw here.1 at absent in cc)
+  | inr apart ↦ (apart.1, rw apart.1 at absent)
+]
+
+-- the value of a key once a pair of an absent key stands at the end
+pub value_of-push : (pairs : Pairs) (key value q : ℤ) → value_of pairs key ≡ None → value_of (pairs ++ (key, value) ∷ []) q ≡ cond (int_eq key q) (Some value) (value_of pairs q)
+value_of-push [] key value q absent = elim (eq_cases key q) [
+  | inl same ↦ elim (eq_cases q key) [
+    | inl here ↦ rw (same.1, here.1) refl
+    | inr apart ↦ absurd (apart.0 (sym same.0))
+  ]
+  | inr other ↦ elim (eq_cases q key) [
+    | inl here ↦ absurd (other.0 (sym here.0))
+    | inr apart ↦ rw (other.1, apart.1) refl
+  ]
+]
+value_of-push (pair ∷ pairs) key value q absent =
+    let rest = absent_rest pair pairs key absent in
+    let step = value_of-push pairs key value q rest.1 in
+    elim (eq_cases q pair.0) [
+      | inl here ↦ elim (eq_cases key q) [
+        | inl same ↦ absurd (let t : true ≡ false = sym same.1 ∙ ap (int_eq key) here.0 ∙ rest.0 in cc)
+        | inr apart ↦ rw (here.1, apart.1) refl
+      ]
+      | inr other ↦ rw other.1 step
+    ]
+
+none_there : (o : Option ℤ) → is_some o ≡ false → o ≡ None
+none_there None is = refl
+none_there (Some x) is = absurd (cc)
+
+module _ {D : Type 0} (content : D → Option (List ℕ)) (old : Session D) (pairs : Pairs) (key value : ℤ) (keeps : Keeps content old pairs) (absent : is_some (value_of pairs key) ≡ false) where
+  -- an insert is refused where the log file is full
+  pub log_full : 66846592 < used_bytes pairs → (LogFull (used_bytes pairs) ≡ reply_to pairs (Insert key value)) × (pairs ≡ pairs_after pairs (Insert key value))
+  log_full full =
+      let test : is_full pairs ≡ true = grind (arith, nat_tests) in
+      (rw (absent, test) refl, rw (absent, test) refl)
+
+  -- an insert is accepted where it isn't
+  pub accepted : used_bytes pairs ≤ 66846592 → (Inserted ≡ reply_to pairs (Insert key value)) × (pairs ++ (key, value) ∷ [] ≡ pairs_after pairs (Insert key value))
+  accepted room =
+      let test : is_full pairs ≡ false = grind (arith, nat_tests) in
+      (rw (absent, test) refl, rw (absent, test) refl)
+
+  -- and then the session keeps one pair more
+  pub one_pair_more : (new : Session D) → used_bytes pairs ≤ 66846592 → ((q : ℤ) → get int_cmp new.pairs q ≡ cond (int_eq key q) (Some value) (get int_cmp old.pairs q)) → btree_map_len new.pairs ≡ btree_map_len old.pairs + 1
+      → lane_of new.writer ≡ lane_of old.writer → stage_of new.writer ≡ Open 2 (11 + 21 * length pairs + 21) → Holds content new.writer 2 (map pair_body pairs ++ pair_body (key, value) ∷ []) → Keeps content new (pairs ++ (key, value) ∷ [])
+  one_pair_more new room updates count lane stage file =
+      let size : length (pairs ++ (key, value) ∷ []) ≡ length pairs + 1 = omega (arith, length-append pairs ((key, value) ∷ [])) in
+      let place : 11 + 21 * length pairs + 21 ≡ 11 + 21 * length (pairs ++ (key, value) ∷ []) = omega (arith, size) in
+      record {
+        same = λ q. updates q ∙ ap (λ (o : Option ℤ). cond (int_eq key q) (Some value) o) (keeps.same q) ∙ sym (value_of-push pairs key value q (none_there (value_of pairs key) absent));
+        count = omega (arith, count, keeps.count, size);
+        few = omega (arith, size, room);
+        lane = lane ∙ keeps.lane;
+        stage = stage ∙ ap (λ (n : ℕ). Open 2 n) place;
+        file = subst (λ (l : List (List ℕ)). Holds content new.writer 2 l) (sym (map-append pair_body pairs ((key, value) ∷ []))) file;
+      }

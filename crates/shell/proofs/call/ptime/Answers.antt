@@ -1,0 +1,25 @@
+use Rattle.std.proofs.Common.{rules, ◌≡◌, sym, subst}
+use Rattle.disk_core.specs.declared.store.Store.{Store}
+use Rattle.shell.specs.Call.{AllDone}
+use Rattle.shell.specs.Files.{log_file}
+use Rattle.shell.specs.Shown.{shown_of}
+use Rattle.shell.proofs.Statuses.{all_done, no_run, no_script}
+use Rattle.shell.proofs.call.ptime.Goals as goal
+
+pub returns-clause-done : goal.returns-clause-done
+returns-clause-done g c zero =
+    let new : Store g.row.D.Denot = record { area_a = c.args.store.area_a; area_b = c.args.store.area_b; lanes = c.push_reserved.new.self } in
+    let same : log_file new ≡ c.call-even.result.0 = search (rules, c.push_reserved.ensures.items, c.pop.ensures, c.requires.lane) in
+    subst (λ (d : g.row.D.Denot). AllDone c.args.words.now (g.S.Source.content c.args.source.now) (g.S.Source.content c.call-even.new.source) (g.K.Sink.taken c.args.sink.now) (g.K.Sink.taken c.print-status.new.sink) g.D.Disk.content d) (sym same)
+    (all_done c.args.words.now (g.S.Source.content c.args.source.now) (g.S.Source.faults c.args.source.now) (g.S.Source.content c.call-even.new.source) (g.S.Source.faults c.call-even.new.source) g.D.Disk.content g.D.Disk.faults c.unwrap-even.result.even c.call-even.result.0
+    (g.K.Sink.taken c.args.sink.now) (g.K.Sink.faults c.args.sink.now) (shown_of c.call-even.result.1) c.call-even.result.1.end c.print-status.result (g.K.Sink.taken c.print-status.new.sink) (g.K.Sink.faults c.print-status.new.sink) c.call-even.ensures c.print-status.ensures zero)
+
+pub returns-clause-usage : goal.returns-clause-usage
+returns-clause-usage g c =
+    no_run c.args.words.now (g.S.Source.content c.args.source.now) (g.S.Source.faults c.args.source.now) (g.S.Source.content c.call-even.new.source) (g.S.Source.faults c.call-even.new.source) g.D.Disk.content g.D.Disk.faults c.unwrap-even.result.even c.call-even.result.0
+    (g.K.Sink.taken c.args.sink.now) (g.K.Sink.faults c.args.sink.now) (shown_of c.call-even.result.1) c.call-even.result.1.end c.print-status.result (g.K.Sink.taken c.print-status.new.sink) (g.K.Sink.faults c.print-status.new.sink) c.call-even.ensures c.print-status.ensures
+
+pub returns-clause-script : goal.returns-clause-script
+returns-clause-script g c =
+    no_script c.args.words.now (g.S.Source.content c.args.source.now) (g.S.Source.faults c.args.source.now) (g.S.Source.content c.call-even.new.source) (g.S.Source.faults c.call-even.new.source) g.D.Disk.content g.D.Disk.faults c.unwrap-even.result.even c.call-even.result.0
+    (g.K.Sink.taken c.args.sink.now) (g.K.Sink.faults c.args.sink.now) (shown_of c.call-even.result.1) c.call-even.result.1.end c.print-status.result (g.K.Sink.taken c.print-status.new.sink) (g.K.Sink.faults c.print-status.new.sink) c.call-even.ensures c.print-status.ensures

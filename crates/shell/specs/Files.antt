@@ -1,0 +1,18 @@
+-- The files of a store that has one lane.
+use Rattle.std.specs.Prelude.{◌≡◌, List, [], ◌∷◌, map}
+use Rattle.disk_core.specs.declared.store.LaneDisks.{LaneDisks}
+use Rattle.disk_core.specs.declared.store.Store.{Store}
+
+-- the even file of the first lane; a store with no lane has none, and its first area stands in
+abbrev pub even_or : {D : Type 0} → D → List (LaneDisks D) → D
+even_or other [] = other
+even_or other (lane ∷ lanes) = lane.even
+
+abbrev pub log_file : {D : Type 0} → Store D → D
+log_file store = even_or store.area_a store.lanes.items
+
+-- all files but the lanes' even ones are as they were
+pub record KeepsOthers {D : Type 0} (old new : Store D) : Type 0 where
+  pub area_a : new.area_a ≡ old.area_a
+  pub area_b : new.area_b ≡ old.area_b
+  pub odd : map (λ lane. lane.odd) new.lanes.items ≡ map (λ lane. lane.odd) old.lanes.items

@@ -1,0 +1,55 @@
+-- What the statements over the table kv reply and leave, over a plain list of pairs.
+use Rattle.std.specs.Prelude.{ℕ, ◌+◌, ◌*◌, nat_lt, ℤ, Bool, if◌then◌else◌, List, [], ◌∷◌, ◌++◌, length, Option, None, Some, is_some, ◌||◌}
+use Rattle.std.specs.Ordering.{int_eq}
+use Rattle.std.specs.Map.{lookup}
+use Rattle.std.specs.Int.{w64, to_le_bytes, cast_unsigned}
+use Rattle.shell.specs.declared.statement.Statement.{Statement}
+use Rattle.shell.specs.declared.statement.Statement.TheVariants.{Insert, Select}
+use Rattle.shell.specs.declared.reply.Reply.{Reply}
+use Rattle.shell.specs.declared.reply.Reply.TheVariants.{Inserted, Duplicate, LogFull, Found, Missing}
+
+-- the pairs of a key and a value, in the order in which they were inserted
+abbrev pub Pairs : Type 0
+Pairs = List (ℤ × ℤ)
+
+-- the value of a key, where there is one
+abbrev pub value_of : Pairs → ℤ → Option ℤ
+value_of pairs key = lookup (int_eq key) pairs
+
+-- how many bytes the log file of these pairs uses: 12, and 21 more per pair
+abbrev pub used_bytes : Pairs → ℕ
+used_bytes pairs = 12 + 21 * length pairs
+
+-- no room is left in the log file
+abbrev pub is_full : Pairs → Bool
+is_full pairs = nat_lt 66846592 (used_bytes pairs)
+
+-- what a look-up replies
+abbrev pub found : ℤ → Option ℤ → Reply
+found key None = Missing
+found key (Some value) = Found key value
+
+-- what a statement replies
+abbrev pub reply_to : Pairs → Statement → Reply
+reply_to pairs (Insert key value) =
+    if is_some (value_of pairs key) then Duplicate key else (if is_full pairs then LogFull (used_bytes pairs) else Inserted)
+reply_to pairs (Select key) = found key (value_of pairs key)
+
+-- the pairs that a statement leaves: an insert that is accepted adds its pair
+abbrev pub pairs_after : Pairs → Statement → Pairs
+pairs_after pairs (Insert key value) = if is_some (value_of pairs key) || is_full pairs then pairs else pairs ++ (key, value) ∷ []
+pairs_after pairs (Select key) = pairs
+
+-- what statements reply one after the other
+abbrev pub replies_to : Pairs → List Statement → List Reply
+replies_to pairs [] = []
+replies_to pairs (s ∷ ss) = reply_to pairs s ∷ replies_to (pairs_after pairs s) ss
+
+-- the pairs that they leave
+abbrev pub pairs_after_all : Pairs → List Statement → Pairs
+pairs_after_all pairs [] = pairs
+pairs_after_all pairs (s ∷ ss) = pairs_after_all (pairs_after pairs s) ss
+
+-- the body of a pair's batch in the log file: the key and the value
+unfoldable pub pair_body : ℤ × ℤ → List ℕ
+pair_body pair = to_le_bytes w64 (cast_unsigned w64 pair.0) ++ to_le_bytes w64 (cast_unsigned w64 pair.1)

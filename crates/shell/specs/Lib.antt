@@ -1,0 +1,12 @@
+pub mod Input
+pub mod Kv
+pub mod Printed
+pub mod Script
+pub mod Text
+pub mod Session
+pub mod Keeping
+pub mod Outcome
+pub mod Open
+pub mod Shown
+pub mod Call
+pub mod Files

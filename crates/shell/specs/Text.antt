@@ -1,0 +1,52 @@
+-- What is printed: the replies under the header of their session, and a last line that tells a fault.
+use Rattle.std.specs.Prelude.{ℕ, true, false, List, [], ◌++◌, codes, Option, None, Some}
+use Rattle.std.specs.Fmt.{decimal, signed_decimal}
+use Rattle.std.specs.List.{flat_map}
+use Rattle.disk_core.specs.declared.store.FileName.{FileName}
+use Rattle.disk_core.specs.declared.store.FileName.TheVariants.{AreaA, AreaB, Lane}
+use Rattle.shell.specs.declared.reply.Reply.{Reply}
+use Rattle.shell.specs.declared.reply.Reply.TheVariants.{Inserted, Duplicate, LogFull, Found, Missing, Stopped, StoppedMemory}
+use Rattle.shell.specs.declared.end.End.{End}
+use Rattle.shell.specs.declared.end.End.TheVariants.{Done, Usage, OutOfMemory, Disk, Source, Script, Damaged}
+
+-- the lines of a reply
+abbrev pub reply_text : Reply → List ℕ
+reply_text Inserted = codes "ok 1\n"
+reply_text (Duplicate key) = codes "refused DUPLICATE " ++ signed_decimal key ++ codes "\n"
+reply_text (LogFull bytes) = codes "refused LOG FULL " ++ decimal bytes ++ codes " 67108864\n"
+reply_text (Found key value) = signed_decimal key ++ codes ", " ++ signed_decimal value ++ codes "\nrows 1\n"
+reply_text Missing = codes "rows 0\n"
+reply_text Stopped = codes "stopped\n"
+reply_text StoppedMemory = codes "stopped MEMORY\n"
+
+-- the session's header and its replies, where the input has a session that was begun
+abbrev pub shown_text : Option (List Reply) → List ℕ
+shown_text None = []
+shown_text (Some replies) = codes "session 1\n" ++ flat_map reply_text replies
+
+-- how a file is called
+abbrev pub file_text : FileName → List ℕ
+file_text AreaA = codes "area.a"
+file_text AreaB = codes "area.b"
+file_text (Lane lane false) = codes "lane" ++ decimal lane ++ codes ".even"
+file_text (Lane lane true) = codes "lane" ++ decimal lane ++ codes ".odd"
+
+-- the line that tells a fault
+abbrev pub last_line : End → List ℕ
+last_line Done = []
+last_line Usage = codes "fault USAGE\n"
+last_line OutOfMemory = codes "fault MEMORY\n"
+last_line (Disk file) = codes "fault DISK " ++ file_text file ++ codes "\n"
+last_line Source = codes "fault SOURCE\n"
+last_line Script = codes "fault SCRIPT\n"
+last_line Damaged = codes "fault DAMAGED\n"
+
+-- the exit status
+abbrev pub status_of : End → ℕ
+status_of Done = 0
+status_of Usage = 2
+status_of OutOfMemory = 3
+status_of (Disk file) = 4
+status_of Source = 5
+status_of Script = 7
+status_of Damaged = 8

@@ -1,0 +1,88 @@
+ghost use Rattle.std.specs.Prelude.{◌≡◌, ◌≤◌, [], false, length};
+ghost use Rattle.std.specs.Fmt.{decimal, signed_decimal};
+
+use arrayvec::ArrayString;
+use io_edge::{Failed, Sink};
+use itoa::{Buffer, Integer};
+
+const PAGE: usize = 4096;
+
+/// Brings text to a sink, a page at a time. After a fault of the sink nothing more is brought to it.
+pub(crate) struct Printer {
+    page: ArrayString<PAGE>,
+    failed: bool,
+}
+
+impl Printer {
+    ghost use Rattle.std.specs.Prelude.{◌≡◌, ◌≤◌, ℕ, List, [], ◌++◌, false, length, Option};
+    ghost use Rattle.shell.specs.Printed.{EndsPrinted, IsPrinted, Prints};
+
+    pub(crate) fn new() -> Printer
+        ensures page { result.page.bytes ≡ [] }
+        ensures failed { result.failed ≡ false }
+    {
+        Printer {
+            page: ArrayString::new(),
+            failed: false,
+        }
+    }
+
+    /// Prints a text that is no longer than a page.
+    pub(crate) fn print<K: Sink>(&mut self, sink: &mut K, text: &str)
+        requires { length text.now ≤ PAGE }
+        ensures { Prints self.old (K.taken sink.old) (K.faults sink.old) text.now self.new (K.taken sink.new) (K.faults sink.new) }
+    {
+        if self.page.remaining_capacity() < text.len() {
+            self.flush(sink);
+        }
+        self.page.push_str(text);
+    }
+
+    /// Prints a number in decimal.
+    pub(crate) fn print_number<K: Sink, N: Integer>(&mut self, sink: &mut K, number: N)
+        ensures { Prints self.old (K.taken sink.old) (K.faults sink.old) (N.text number) self.new (K.taken sink.new) (K.faults sink.new) }
+    {
+        let mut buffer = Buffer::new();
+        self.print(sink, buffer.format(number));
+    }
+
+    /// Prints a number between two short texts.
+    pub(crate) fn print_between<K: Sink, N: Integer>(
+        &mut self,
+        sink: &mut K,
+        front: &str,
+        number: N,
+        back: &str,
+    )
+        requires front { length front.now ≤ PAGE }
+        requires back { length back.now ≤ PAGE }
+        ensures { Prints self.old (K.taken sink.old) (K.faults sink.old) (front.now ++ N.text number ++ back.now) self.new (K.taken sink.new) (K.faults sink.new) }
+    {
+        self.print(sink, front);
+        self.print_number(sink, number);
+        self.print(sink, back);
+    }
+
+    /// Brings what waits to the sink. `Failed` says that the sink has failed, now or before.
+    pub(crate) fn finish<K: Sink>(mut self, sink: &mut K) -> Result<(), Failed>
+        ensures { (start : Option (List ℕ)) (before : ℕ) (text : List ℕ) → IsPrinted start before text self (K.taken sink.old) (K.faults sink.old)
+            → EndsPrinted start before text result (K.taken sink.new) (K.faults sink.new) }
+    {
+        self.flush(sink);
+        let Printer { page: _, failed } = self;
+        if failed { Err(Failed) } else { Ok(()) }
+    }
+
+    fn flush<K: Sink>(&mut self, sink: &mut K)
+        ensures printed { Prints self.old (K.taken sink.old) (K.faults sink.old) [] self.new (K.taken sink.new) (K.faults sink.new) }
+        ensures empty { self.new.page.bytes ≡ [] }
+    {
+        if self.failed {
+            self.page.clear();
+            return;
+        }
+        let pushed = sink.push(self.page.as_str().as_bytes());
+        self.page.clear();
+        self.failed = pushed.is_err();
+    }
+}

@@ -1,0 +1,102 @@
+// Runs a script over the log file.
+ghost use Rattle.std.specs.Prelude.{◌≡◌, ◌+◌, ◌-◌, ◌<◌, ◌≤◌, [], ◌++◌, length, take, replicate, List, Some, IfErr, OnOk, OnErr, vec_len, vec_capacity};
+ghost use Rattle.std.specs.Option.{ForSome};
+ghost use Rattle.shell.specs.Open.{IsOpen};
+ghost use Rattle.shell.specs.Outcome.{Runs};
+ghost use Rattle.shell.specs.Session.{script_of};
+ghost use Rattle.shell.specs.Shown.{shown_of};
+ghost use Rattle.causes.specs.Causes.{Rose};
+ghost use Rattle.disk_core.specs.declared.store.FileName.{FileName};
+ghost use Rattle.lane_format.specs.Writer.{disk_of, even_file};
+ghost use Rattle.shell.specs.Kv.{Pairs, pairs_after_all, replies_to};
+ghost use Rattle.shell.specs.Keeping.{Keeps};
+
+use crate::outcome::Outcome;
+use crate::script::Script;
+use crate::session::{Session, Stop};
+use crate::{End, Reply, Statement};
+use disk_core::Disk;
+use std::alloc::Global;
+
+/// Answers statements in order, up to the first that stops the run.
+fn answer_all<D: Disk>(
+    session: &mut Session<D>,
+    statements: &[Statement],
+    replies: &mut Vec<Reply>,
+) -> Result<(), Stop>
+    requires keeps { (pairs : Pairs) × Keeps D.content session.old pairs }
+    requires none { replies.old.items ≡ [] }
+    requires room { length statements.now ≤ vec_capacity replies.old }
+    ensures ok { OnOk result ((pairs : Pairs) → Keeps D.content session.old pairs
+        → (replies.new.items ≡ replies_to pairs statements.now) × Keeps D.content session.new (pairs_after_all pairs statements.now)) }
+    ensures err { OnErr result ((vec_len replies.new < length statements.now) × ((pairs : Pairs) → Keeps D.content session.old pairs
+        → replies.new.items ≡ take (vec_len replies.new) (replies_to pairs statements.now))) }
+    ensures disk { IfErr result (λ stop. (file : FileName) → stop ≡ Stop.Disk file
+        → (file ≡ even_file 0) × Rose (D.faults (disk_of session.old.writer)) (D.faults (disk_of session.new.writer))) }
+    ensures room { length statements.now ≤ vec_capacity replies.new }
+{
+    for statement in statements {
+        let reply = session.answer(statement)?;
+        replies.push(reply).unwrap();
+    }
+    Ok(())
+}
+
+/// Gives this reply to each statement that the run didn't come to.
+fn pad(replies: &mut Vec<Reply>, len: usize, word: Reply)
+    requires room { len ≤ vec_capacity replies.old }
+    requires some { vec_len replies.old ≤ len }
+    ensures { replies.new.items ≡ replies.old.items ++ replicate (len - vec_len replies.old) word }
+{
+    while replies.len() < len {
+        replies.push_reserved(word);
+    }
+}
+
+/// Runs statements in a session, and ends it.
+fn run_session<D: Disk>(
+    mut session: Session<D>,
+    statements: &[Statement],
+    mut replies: Vec<Reply>,
+) -> (D, Outcome)
+    requires keeps { (pairs : Pairs) × Keeps D.content session pairs }
+    requires none { replies.items ≡ [] }
+    requires room { length statements.now ≤ vec_capacity replies }
+    ensures runs { (pairs : Pairs) (disk : D) → Keeps D.content session pairs → ForSome (D.content disk) (λ bytes. ¬ (IsOpen bytes)) → D.faults disk ≤ D.faults (disk_of session.writer)
+        → Runs D.content D.faults pairs (Some statements.now) disk result.1.end (shown_of result.1) result.0 }
+{
+    let end = match answer_all(&mut session, statements, &mut replies) {
+        Ok(()) => End::Done,
+        Err(Stop::OutOfMemory) => {
+            pad(&mut replies, statements.len(), Reply::StoppedMemory);
+            End::OutOfMemory
+        }
+        Err(Stop::Disk(file)) => {
+            pad(&mut replies, statements.len(), Reply::Stopped);
+            End::Disk(file)
+        }
+    };
+    let shown = Some(replies);
+    (session.into_disk(), Outcome { shown, end })
+}
+
+/// Runs a script over the log file. The memory of its replies is found before the file is touched.
+pub(crate) fn run_script<D: Disk>(alloc: Global, script: Script, disk: D) -> (D, Outcome)
+    ensures { Runs D.content D.faults [] (script_of script) disk result.1.end (shown_of result.1) result.0 }
+{
+    let statements = match &script.session {
+        Some(statements) => statements.len(),
+        None => 0,
+    };
+    let Ok(replies) = Vec::with_capacity(alloc, statements) else {
+        return (disk, Outcome::alone(End::OutOfMemory));
+    };
+    let session = match Session::open(alloc, disk) {
+        Ok(session) => session,
+        Err((end, disk)) => return (disk, Outcome::alone(end)),
+    };
+    match script.session {
+        Some(statements) => run_session(session, &statements, replies),
+        None => (session.into_disk(), Outcome::alone(End::Done)),
+    }
+}
