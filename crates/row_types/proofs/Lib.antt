@@ -1,0 +1,5 @@
+pub mod Cells
+pub mod ReadingCells
+pub mod WritingCells
+pub mod SlotLaws
+pub mod SchemaLaws

@@ -1,2 +1,6 @@
 pub mod Block
+pub mod Keys
+pub mod Reading
+pub mod Schema
+pub mod Slot
 pub mod Text

@@ -3,11 +3,18 @@
 
 mod block;
 mod definition;
+mod fault;
 mod row;
+mod schema;
+mod schema_slots;
+mod slot;
 mod text;
 
 pub use block::{Block, Piece2, Pieces};
 pub use causes::OutOfMemory;
 pub use definition::{Column, Columns, Kind, Marks, TableDef};
+pub use fault::{SchemaFault, SlotFault};
 pub use row::{Numbers, Row, Value};
+pub use schema::Schema;
+pub use schema_slots::one_slot;
 pub use text::{Name, Text};
