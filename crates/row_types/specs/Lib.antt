@@ -3,4 +3,5 @@ pub mod Keys
 pub mod Reading
 pub mod Schema
 pub mod Slot
+pub mod Tables
 pub mod Text

@@ -39,6 +39,8 @@ impl Model for Row {
 }
 
 impl Row {
+    ghost use Rattle.row_types.specs.Keys.{int_at};
+
     /// The row of `values`.
     pub fn new(values: Vec<Value>) -> Row
         ensures { result ≡ values.items }
@@ -51,6 +53,16 @@ impl Row {
         ensures { result.now ≡ self.now }
     {
         self.values.as_slice()
+    }
+
+    /// The whole number at a place, 0 where no such stands.
+    pub fn int_at(&self, place: usize) -> i64
+        ensures { result ≡ int_at self.now place }
+    {
+        match self.values.get(place) {
+            Some(Value::Int(number)) => *number,
+            _ => 0,
+        }
     }
 
     /// Gives its values back.

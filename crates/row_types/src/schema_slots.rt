@@ -8,7 +8,7 @@ ghost use Rattle.row_types.specs.declared.definition.Column.{Column};
 
 use crate::schema::PAGE;
 use crate::slot::{is_row_of, read_slot, slot_fault, slot_len, write_slot};
-use crate::{Column, Numbers, OutOfMemory, Row, Schema, SlotFault, Value};
+use crate::{Column, Numbers, OutOfMemory, Row, Schema, SlotFault};
 use std::alloc::Global;
 
 impl Schema {
@@ -94,19 +94,9 @@ impl Schema {
         let marks = self.table(table).keys.as_slice();
         let mut numbers = Vec::with_capacity(alloc, marks.len())?;
         for mark in marks {
-            numbers.push(int_at(row.values(), *mark as usize))?;
+            numbers.push(row.int_at(*mark as usize))?;
         }
         Ok(Numbers::new(numbers))
-    }
-}
-
-/// The whole number at a place of a row, 0 where no such stands.
-fn int_at(values: &[Value], place: usize) -> i64
-    ensures { result ≡ int_at values.now place }
-{
-    match values.get(place) {
-        Some(Value::Int(number)) => *number,
-        _ => 0,
     }
 }
 
