@@ -1,14 +1,15 @@
 -- What holds of the tables of a schema, and of a schema with one table more.
-use Rattle.std.proofs.Common.{◌≡◌, ℕ, zero, suc, Bool, true, false, not, List, [], ◌∷◌, ◌++◌, length, Option, None, Some, refl, sym, ◌∙◌, ap, subst, append_assoc}
-use Rattle.std.specs.Prelude.{slice_get}
+use Rattle.std.proofs.Common.{◌+◌, arith, ◌≤◌, ◌≡◌, ℕ, zero, suc, Bool, true, false, not, List, [], ◌∷◌, ◌++◌, length, Option, None, Some, refl, sym, ◌∙◌, ap, subst, append_assoc}
+use Rattle.std.specs.Prelude.{slice_get, nat_le}
 use Rattle.std.specs.Option.{option_or}
 use Rattle.std.specs.List.{AllByRecursion}
-use Rattle.std.proofs.lemmas.Bool.{ltb-false}
-use Rattle.std.proofs.lemmas.List.{append-nil}
+use Rattle.std.proofs.lemmas.Bool.{ltb-false, leb-false}
+use Rattle.std.proofs.lemmas.List.{append-nil, length-append}
 use Rattle.row_types.specs.declared.definition.TableDef.{TableDef}
 use Rattle.row_types.specs.declared.fault.SchemaFault.{SchemaFault}
+use Rattle.row_types.specs.declared.fault.SchemaFault.TheVariants.{TableExists, Tables}
 use Rattle.row_types.specs.Slot.{slot_len}
-use Rattle.row_types.specs.Schema.{refused_if, refusal, AreAccepted, IsNamed, IsSchema, IsTable}
+use Rattle.row_types.specs.Schema.{has_table, refused_if, refusal, AreAccepted, IsNamed, IsSchema, IsTable}
 
 neither : {A : Type 0} (o p : Option A) → option_or o p ≡ None → (o ≡ None) × (p ≡ None)
 neither None p e = (refl, e)
@@ -56,3 +57,17 @@ accepted_push before (d ∷ tables) def all one =
 -- a schema stays one with a table that isn't refused
 pub schema_push : (tables : List TableDef) (def : TableDef) → IsSchema tables → IsNamed def → refusal tables def ≡ None → IsSchema (tables ++ def ∷ [])
 schema_push tables def schema named none = record { named = named_push tables def schema.named named; accepted = accepted_push [] tables def schema.accepted none }
+
+count_of : (before tables : List TableDef) → AreAccepted before tables → length before ≤ 16 → length before + length tables ≤ 16
+count_of before [] all le = omega arith
+count_of before (d ∷ tables) all le =
+    let later = neither (refused_if (has_table before d.name) TableExists) _ all.0 in
+    let b = neither (refused_if (nat_le 16 (length before)) (Tables 16)) _ later.1 in
+    let few : nat_le 16 (length before) ≡ false = not_refused (nat_le 16 (length before)) (Tables 16) b.0 in
+    let one = length-append before (d ∷ []) in
+    let rest = count_of (before ++ d ∷ []) tables all.1 (omega (arith, one, leb-false 16 (length before) few)) in
+    omega (arith, one, rest)
+
+-- a schema has at most 16 tables
+pub table_count : (tables : List TableDef) → IsSchema tables → length tables ≤ 16
+table_count tables schema = omega (arith, count_of [] tables schema.accepted (omega arith))

@@ -1,12 +1,11 @@
 -- What has no fault is the slot of a row or of none, and the slot of a row has no fault and is read as that row.
-use Rattle.std.proofs.Common.{◌≡◌, ℕ, zero, suc, ℤ, ◌+◌, ◌-◌, ◌^◌, ◌<◌, ◌≤◌, Bool, false, not, cond, eqb, List, [], ◌∷◌, ◌++◌, length, get_or, take, drop, replicate, Option, None, Some, Result, Ok, Err, refl, sym, ◌∙◌, ap, subst, append_assoc, arith, inl, inr, Fits}
+use Rattle.std.proofs.Common.{◌≡◌, ℕ, zero, suc, ℤ, ◌+◌, ◌-◌, ◌^◌, ◌<◌, ◌≤◌, Bool, false, not, cond, eqb, List, [], ◌∷◌, ◌++◌, length, take, drop, replicate, Option, None, Some, Result, Ok, Err, refl, sym, ◌∙◌, ap, subst, append_assoc, arith, inl, inr, Fits}
 use Rattle.std.specs.Prelude.{◌↔◌, ◌⊎◌, IfOk, IfSome, IsUtf8, FitsSigned}
 use Rattle.std.specs.Int.{w16, w64, cast_signed, cast_unsigned, to_le_bytes, from_le_bytes}
 use Rattle.std.proofs.Math.Facts.{sfits_to_z, Fits-of_z, Fits-of_lt}
-use Rattle.std.proofs.lemmas.Bool.{cases_lt}
 use Rattle.std.proofs.lemmas.Int.{to_z-of_z, of_z-to_z}
 use Rattle.std.proofs.lemmas.Nat.{le_bytes_2, le_bytes_8, from_le_bytes-to_le_bytes_2, from_le_bytes-to_le_bytes_8}
-use Rattle.std.proofs.lemmas.List.{take_at, drop_at, take-append-drop, length-take, length-drop, get_or-drop, get_or-take, get_or_past}
+use Rattle.std.proofs.lemmas.List.{take_at, drop_at, take-append-drop, length-take, length-drop}
 use Rattle.std.proofs.lemmas.List.Sums.{sum_by-cons}
 use Rattle.row_types.specs.declared.definition.Kind.{Kind}
 use Rattle.row_types.specs.declared.definition.Kind.TheVariants as kind
@@ -17,22 +16,10 @@ use Rattle.row_types.specs.declared.fault.SlotFault.{SlotFault}
 use Rattle.row_types.specs.declared.fault.SlotFault.TheVariants.{BadSlot, OutOfMemory}
 use Rattle.row_types.specs.Slot.{width, widths, slot_len, cell_text, cells_text, slot_text, empty_slot, FitsKind, IsRowOf, first_not_zero, cell_fault, cells_fault, slot_fault}
 use Rattle.row_types.specs.Reading.{cell_value, cells_values, slot_value, unless_fault, read_slot, IsUnlessMemory}
+use Rattle.row_types.proofs.Bytes.{IsBytes, IsBytes-drop, IsBytes-take}
 use Rattle.row_types.proofs.Cells.{cell_fault_behind, text_of_no_fault, len_of_no_fault}
 use Rattle.row_types.proofs.ReadingCells.{option_or_neither}
 use Rattle.row_types.proofs.WritingCells.{length-cell_text, length-cells_text}
-
-abbrev pub IsBytes : List ℕ → Type 0
-IsBytes bytes = (i : ℕ) → get_or bytes i 0 < 256
-
-IsBytes-drop : (n : ℕ) (bytes : List ℕ) → IsBytes bytes → IsBytes (drop n bytes)
-IsBytes-drop n bytes h i = rw get_or-drop (h (n + i))
-
-IsBytes-take : (n : ℕ) (bytes : List ℕ) → IsBytes bytes → IsBytes (take n bytes)
-IsBytes-take n bytes h i =
-    elim (cases_lt i n) [
-      | inl lt ↦ rw (get_or-take n bytes i 0 lt) (h i)
-      | inr le ↦ rw (get_or_past (take n bytes) i 0 (omega (arith, length-take n bytes))) (omega arith)
-    ]
 
 -- ---- zeros
 

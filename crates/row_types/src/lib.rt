@@ -7,6 +7,7 @@ mod fault;
 mod row;
 mod schema;
 mod schema_slots;
+mod schema_text;
 mod slot;
 mod text;
 
@@ -17,4 +18,5 @@ pub use fault::{SchemaFault, SlotFault};
 pub use row::{Numbers, Row, Value};
 pub use schema::Schema;
 pub use schema_slots::one_slot;
+pub use schema_text::schema_texts_are_short;
 pub use text::{Name, Text};
