@@ -5,7 +5,7 @@ use crate::{OutOfMemory, Text};
 use std::marker::Model;
 
 /// A value of a row: a whole number from -2^63 to 2^63 - 1, or a text.
-#[derive(Debug, Drop)]
+#[derive(Debug, PartialEq, Eq, Drop)]
 pub enum Value {
     Int(i64),
     Text(Text),

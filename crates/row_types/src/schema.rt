@@ -1,8 +1,9 @@
 // Schemas: the definitions of the tables that there are.
-ghost use Rattle.std.specs.Prelude.{◌≡◌, ◌⊎◌, ◌↔◌, ◌<◌, ◌≤◌, ◌++◌, ◌∷◌, [], length, Some, None, Ok, Err, IsTrue, IfOk, IfSome, IfNone, OnOk, OnErr, slice_get};
+ghost use Rattle.std.specs.Prelude.{◌≡◌, ◌⊎◌, ◌↔◌, ◌<◌, ◌≤◌, ◌++◌, ◌∷◌, [], List, length, Some, None, Ok, Err, IsTrue, IfOk, IfSome, IfNone, OnOk, OnErr, slice_get};
 ghost use Rattle.std.specs.List.{AllByRecursion};
 ghost use Rattle.row_types.specs.Text.{IsName};
-ghost use Rattle.row_types.specs.Schema.{has_table, has_column, doubled_from, has_int_key, refusal, verdict, with_table, IsTable, IsNamed};
+ghost use Rattle.row_types.specs.declared.definition.TableDef.{TableDef};
+ghost use Rattle.row_types.specs.Schema.{has_table, has_column, doubled_from, has_int_key, refusal, verdict, created, IsTable, IsNamed, IsSchema};
 
 use crate::slot::slot_len;
 use crate::{Column, Kind, OutOfMemory, SchemaFault, TableDef};
@@ -157,3 +158,9 @@ fn refusal(tables: &[TableDef], def: &TableDef) -> Option<SchemaFault>
     }
     None
 }
+
+/// Tables that are asked for of a schema lead to a schema, and each has an answer.
+pub fn schemas_stay_schemas()
+    ensures schema { (tables defs : List TableDef) → IsSchema tables → AllByRecursion IsNamed defs → IsSchema (created tables defs).1 }
+    ensures answers { (tables defs : List TableDef) → length (created tables defs).0 ≡ length defs }
+{}
