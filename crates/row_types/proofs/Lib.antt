@@ -1,0 +1,10 @@
+pub mod Bytes
+pub mod Cells
+pub mod ReadingCells
+pub mod WritingCells
+pub mod SlotLaws
+pub mod SchemaLaws
+pub mod NameReading
+pub mod Putting
+pub mod ReadingSchemas
+pub mod SchemaTextLaws

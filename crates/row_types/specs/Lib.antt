@@ -1,0 +1,9 @@
+pub mod Block
+pub mod Keys
+pub mod Reading
+pub mod Schema
+pub mod SchemaReading
+pub mod SchemaText
+pub mod Slot
+pub mod Tables
+pub mod Text
