@@ -1,0 +1,8 @@
+use Rattle.std.proofs.Common.{◌≡◌, ◌+◌, drop}
+use Rattle.std.specs.List.{prefix_len}
+use Rattle.sql_lex.specs.Spelling.{is_word_byte}
+use Rattle.sql_lex.proofs.bytes.word_len.Given as goal
+
+-- the bytes so far belong to it
+abbrev pub invariant-loop-i : goal.invariant-loop-i
+invariant-loop-i l = l.i + prefix_len is_word_byte (drop l.i l.bytes) ≡ prefix_len is_word_byte l.bytes

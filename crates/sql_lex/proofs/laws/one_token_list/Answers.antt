@@ -1,0 +1,5 @@
+use Rattle.sql_lex.proofs.Runs.{one_list}
+use Rattle.sql_lex.proofs.laws.one_token_list.Goals as goal
+
+pub returns : goal.returns
+returns c = one_list

@@ -1,0 +1,8 @@
+pub mod Faults
+pub mod Found
+pub mod Letters
+pub mod Reading
+pub mod Scans
+pub mod Seen
+pub mod Spelling
+pub mod Tokens

@@ -1,0 +1,19 @@
+//! The tokens of a SQL statement: words, numbers, literals and signs, each with its place in the script.
+#![tactic(auto)]
+
+mod bytes;
+mod keyword;
+mod laws;
+mod lexing;
+mod scanning;
+mod shapes;
+#[cfg(test)]
+mod tests;
+mod token;
+
+pub use causes::OutOfMemory;
+pub use keyword::Keyword;
+pub use laws::{one_end, one_token_list};
+pub use lexing::{LexFault, lex};
+pub use scanning::{End, Scan, scan_tokens};
+pub use token::{Sign, Token, TokenKind};
