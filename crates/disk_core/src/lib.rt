@@ -3,6 +3,7 @@
 
 mod disk;
 mod file;
+mod history;
 mod memory;
 mod store;
 #[cfg(test)]

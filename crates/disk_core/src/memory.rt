@@ -1,9 +1,11 @@
 // A disk in memory, which tells its bytes and fails at the calls that it is told to.
-ghost use Rattle.std.specs.Prelude.{◌≡◌, ◌⊎◌, ◌↔◌, ◌+◌, ◌<◌, ◌≤◌, [], Some, length, Contains, IsTrue, IsErr, IfOk, OnErr, MatchOption, vec_len, vec_capacity};
+ghost use Rattle.std.specs.Prelude.{◌≡◌, ◌⊎◌, ◌↔◌, ◌+◌, ◌<◌, ◌≤◌, [], Some, length, Contains, IsTrue, IsErr, IfOk, OnOk, OnErr, vec_len, vec_capacity};
 ghost use Rattle.causes.specs.Causes.{HasCause};
+ghost use Rattle.disk_core.specs.Crash.{Elapses, Follows, NoneNew, Only, Tears};
 ghost use Rattle.disk_core.specs.Device.{Measures, Reads, Writes, written};
-ghost use Rattle.disk_core.specs.Memory.{one_more, room_of, room_after, after_read, after_change};
+ghost use Rattle.disk_core.specs.Memory.{one_more, room_of, content_of, leaves, left, after_read, after_write, after_sync};
 
+use crate::history::{Entry, History};
 use crate::{Disk, Failed, OutOfMemory};
 use std::alloc::Global;
 use std::marker::Model;
@@ -12,22 +14,25 @@ use std::marker::Model;
 /// it was made with, and a sync 64.
 #[derive(Drop)]
 pub struct MemDisk {
+    initial: Vec<u8>,
     content: Vec<u8>,
-    room: u64,
+    history: History,
     changes: Calls,
     reads: Calls,
     faults: u64,
 }
 
 impl Model for MemDisk {
-    ghost use Rattle.std.specs.Prelude.{◌+◌, ◌*◌, ◌≤◌, vec_len, vec_capacity};
+    ghost use Rattle.std.specs.Prelude.{◌≡◌, ◌+◌, ◌*◌, ◌≤◌, vec_len, vec_capacity};
     ghost use Rattle.disk_core.specs.Memory.{MemoryView};
+    ghost use Rattle.disk_core.specs.History.{content_after};
 
     ghost Value = { MemoryView };
 
     ghost view = { λ d. record {
-      content = d.content.items;
-      room = d.room;
+      initial = d.initial.items;
+      calls = d.history.calls;
+      room = d.history.room;
       changes = d.changes.made;
       reads = d.reads.made;
       failing_changes = d.changes.failing.items;
@@ -35,14 +40,18 @@ impl Model for MemDisk {
       faults = d.faults;
     } };
 
-    ghost invariant = { λ d. 2 * vec_len d.content + d.room ≤ 2 * vec_capacity d.content };
+    ghost invariant = { λ d.
+        (d.content.items ≡ content_after d.initial.items d.history.calls)
+        × (2 * vec_len d.content + d.history.room ≤ 2 * vec_capacity d.content)
+        × (2 * vec_len d.content + d.history.room ≤ 2 * vec_capacity d.initial) };
 }
 
 impl MemDisk {
     /// A disk with these bytes and `room` bytes for what its change calls keep. No call is named.
     pub fn new(alloc: Global, bytes: Vec<u8>, room: u64) -> Result<MemDisk, OutOfMemory>
         ensures { IfOk result (λ disk. disk ≡ record {
-          content = bytes.items;
+          initial = bytes.items;
+          calls = [];
           room = room;
           changes = 0;
           reads = 0;
@@ -53,9 +62,12 @@ impl MemDisk {
     {
         let mut content = bytes;
         content.reserve_exact(room.div_ceil(2) as usize)?;
+        let mut initial = Vec::with_capacity(alloc, content.capacity())?;
+        initial.extend_from_slice(&content)?;
         Ok(MemDisk {
+            initial,
             content,
-            room,
+            history: History::new(alloc, room)?,
             changes: Calls::naming(Vec::new(alloc)),
             reads: Calls::naming(Vec::new(alloc)),
             faults: 0,
@@ -81,7 +93,7 @@ impl MemDisk {
 
     /// What a read gives.
     pub fn bytes(&self) -> &[u8]
-        ensures { result.now ≡ self.now.content }
+        ensures { result.now ≡ content_of self.now }
     {
         self.content.as_slice()
     }
@@ -111,27 +123,6 @@ impl Calls {
     }
 }
 
-// Uses the room of a change call of n bytes, and says whether there was so much.
-fn use_room(room: &mut u64, n: usize) -> bool
-    ensures enough { IsTrue result ↔ (room_of n ≤ room.old) }
-    ensures rest { room.new ≡ room_after n room.old }
-{
-    match rest_of(*room, n) {
-        Some(rest) => {
-            *room = rest;
-            true
-        }
-        None => false,
-    }
-}
-
-fn rest_of(room: u64, n: usize) -> Option<u64>
-    ensures { MatchOption result (room < room_of n) (λ rest. rest + room_of n ≡ room) }
-{
-    let n = n as u64;
-    room.checked_sub(64)?.checked_sub(n)?.checked_sub(n)
-}
-
 fn fail(faults: &mut u64) -> Failed
     ensures { faults.new ≡ one_more faults.old }
 {
@@ -144,6 +135,7 @@ fn put(content: &mut Vec<u8>, at: usize, bytes: &[u8])
     requires inside { at ≤ vec_len content.old }
     requires fits { at + length bytes.now ≤ vec_capacity content.old }
     ensures written { content.new.items ≡ written at bytes.now content.old.items }
+    ensures len { vec_len content.new ≤ vec_len content.old + length bytes.now }
     ensures capacity { vec_capacity content.old ≤ vec_capacity content.new }
 {
     let over = bytes.len().min(content.len() - at);
@@ -152,15 +144,31 @@ fn put(content: &mut Vec<u8>, at: usize, bytes: &[u8])
 }
 
 impl Disk for MemDisk {
-    ghost use Rattle.std.specs.Prelude.{Some};
+    ghost use Rattle.std.specs.Prelude.{Some, length};
+    ghost use Rattle.disk_core.specs.Memory.{content_of, leaves, left};
+    ghost use Rattle.disk_core.specs.HistoryLaws.{as_read, now_since, since_now};
 
-    ghost content = { λ d. Some d.content };
+    ghost content = { λ d. Some (content_of d) };
+
+    ghost may_leave = { leaves };
+
+    ghost moment = { λ d. length d.calls };
+
+    ghost left_since = { left };
 
     ghost faults = { λ d. d.faults };
 
+    ghost counts_now = { λ d t image le. now_since d.initial t d.calls image };
+
+    ghost only_now = { λ d. since_now d.initial d.calls };
+
+    ghost leaves_as_read = { λ d. as_read d.initial d.calls };
+
     fn size(&mut self) -> Result<u64, Failed>
-        ensures size { Measures (Some self.old.content) result }
-        ensures same { self.new.content ≡ self.old.content }
+        ensures size { Measures (Some (content_of self.old)) result }
+        ensures same { content_of self.new ≡ content_of self.old }
+        ensures crash { NoneNew (leaves self.old) (leaves self.new) }
+        ensures time { Elapses (length self.old.calls) (length self.new.calls) (left self.old) (left self.new) (leaves self.new) }
         ensures cause { HasCause self.old.faults self.new.faults result }
 
         // It fails exactly where it is named, and changes nothing but what is counted.
@@ -174,9 +182,11 @@ impl Disk for MemDisk {
     }
 
     fn read_at(&mut self, at: u64, into: &mut [u8]) -> Result<(), Failed>
-        requires { at + length into.old ≤ length self.old.content }
-        ensures bytes { Reads (Some self.old.content) at result into.new }
-        ensures same { self.new.content ≡ self.old.content }
+        requires { at + length into.old ≤ length (content_of self.old) }
+        ensures bytes { Reads (Some (content_of self.old)) at result into.new }
+        ensures same { content_of self.new ≡ content_of self.old }
+        ensures crash { NoneNew (leaves self.old) (leaves self.new) }
+        ensures time { Elapses (length self.old.calls) (length self.new.calls) (left self.old) (left self.new) (leaves self.new) }
         ensures cause { HasCause self.old.faults self.new.faults result }
 
         // It fails exactly where it is named, and then gives nothing; it changes nothing but what is counted.
@@ -193,37 +203,52 @@ impl Disk for MemDisk {
     }
 
     fn write_at(&mut self, at: u64, bytes: &[u8]) -> Result<(), Failed>
-        requires { at ≤ length self.old.content }
-        ensures written { Writes (Some self.old.content) at bytes.now result (Some self.new.content) }
+        requires { at ≤ length (content_of self.old) }
+        ensures written { Writes (Some (content_of self.old)) at bytes.now result (Some (content_of self.new)) }
+        ensures crash { Follows (Tears at bytes.now) (leaves self.old) (leaves self.new) }
+        ensures time { Elapses (length self.old.calls) (length self.new.calls) (left self.old) (left self.new) (leaves self.new) }
         ensures cause { HasCause self.old.faults self.new.faults result }
 
-        // It fails exactly where it is named or finds too little room, and then writes nothing.
+        // It fails exactly where it is named or finds too little room, and then a read gives what it gave before.
         ensures named { IsErr result ↔ Contains self.old.failing_changes (one_more self.old.changes) ⊎ (self.old.room < room_of (length bytes.now)) }
-        ensures nothing { OnErr result (self.new.content ≡ self.old.content) }
-        ensures counted { self.new ≡ record (after_change (length bytes.now) result self.old) { content = self.new.content } }
+        ensures nothing { OnErr result (content_of self.new ≡ content_of self.old) }
+        ensures counted { self.new ≡ after_write at bytes.now result self.old }
     {
         let named = self.changes.count();
-        let fits = use_room(&mut self.room, bytes.len());
-        if named || !fits {
+        if !self.history.fits(bytes.len()) {
             return Err(fail(&mut self.faults));
         }
-        put(&mut self.content, at as usize, bytes);
+        let at = at as usize;
+        let len = bytes.len();
+        if named {
+            self.history.keep(Entry::Attempt { at, len }, bytes);
+            return Err(fail(&mut self.faults));
+        }
+        put(&mut self.content, at, bytes);
+        self.history.keep(Entry::Write { at, len }, bytes);
         Ok(())
     }
 
     fn sync(&mut self) -> Result<(), Failed>
-        ensures same { self.new.content ≡ self.old.content }
+        ensures same { content_of self.new ≡ content_of self.old }
+        ensures crash { NoneNew (leaves self.old) (leaves self.new) }
+        ensures durable { OnOk result (Only (content_of self.new) (leaves self.new)) }
+        ensures time { Elapses (length self.old.calls) (length self.new.calls) (left self.old) (left self.new) (leaves self.new) }
         ensures cause { HasCause self.old.faults self.new.faults result }
 
-        // It fails exactly where it is named or finds too little room, and changes nothing but what is counted.
+        // It fails exactly where it is named or finds too little room, and then a crash may leave what it might before.
         ensures named { IsErr result ↔ Contains self.old.failing_changes (one_more self.old.changes) ⊎ (self.old.room < room_of 0) }
-        ensures counted { self.new ≡ after_change 0 result self.old }
+        ensures counted { self.new ≡ after_sync result self.old }
     {
         let named = self.changes.count();
-        let fits = use_room(&mut self.room, 0);
-        if named || !fits {
+        if !self.history.fits(0) {
             return Err(fail(&mut self.faults));
         }
+        if named {
+            self.history.spend(0);
+            return Err(fail(&mut self.faults));
+        }
+        self.history.keep(Entry::Sync, &[]);
         Ok(())
     }
 }
