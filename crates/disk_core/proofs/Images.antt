@@ -16,8 +16,8 @@ module _ (at : ℕ) (bytes old : List ℕ) (inside : at ≤ length old) where
   rest : List ℕ
   rest = drop (at + length bytes) old
 
-  size : length (written at bytes old) ≡ at + length bytes + length (drop (at + length bytes) old)
-  size = omega (arith, length-append (take at old ++ bytes) (drop (at + length bytes) old), range)
+  pub length-written_parts : length (written at bytes old) ≡ at + length bytes + length (drop (at + length bytes) old)
+  length-written_parts = omega (arith, length-append (take at old ++ bytes) (drop (at + length bytes) old), range)
 
   -- a whole write is one of those that a crash may leave
   pub whole_write : Tears at bytes old (written at bytes old)
@@ -25,8 +25,8 @@ module _ (at : ℕ) (bytes old : List ℕ) (inside : at ≤ length old) where
     torn = record {
       before = ap (take at) (append_assoc (take at old) bytes (drop (at + length bytes) old)) ∙ take_at (take at old) (bytes ++ drop (at + length bytes) old) at front;
       after = drop_at (take at old ++ bytes) (drop (at + length bytes) old) (at + length bytes) range;
-      no_shorter = omega (arith, size, length-drop (at + length bytes) old);
-      no_longer = omega (arith, size, length-drop (at + length bytes) old);
+      no_shorter = omega (arith, length-written_parts, length-drop (at + length bytes) old);
+      no_longer = omega (arith, length-written_parts, length-drop (at + length bytes) old);
     };
     alone = λ byte one. inl (single byte one);
   }

@@ -1,2 +1,4 @@
 pub mod Calls
+pub mod Chosen
 pub mod Images
+pub mod Places

@@ -7,13 +7,13 @@ use Rattle.disk_core.specs.History.{Change, Wrote, Tried, Synced}
 -- the call of an entry, with its bytes
 abbrev pub change_of : Entry → List ℕ → Change
 change_of (Write at len) bytes = Wrote at bytes
-change_of (Attempt at len) bytes = Tried at bytes
+change_of (Attempt at len size) bytes = Tried at bytes size
 change_of Sync bytes = Synced
 
 -- how many bytes an entry wrote
 abbrev pub len_of : Entry → ℕ
 len_of (Write at len) = len
-len_of (Attempt at len) = len
+len_of (Attempt at len size) = len
 len_of Sync = 0
 
 -- how many bytes all of them wrote

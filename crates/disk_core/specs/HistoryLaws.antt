@@ -16,7 +16,7 @@ nothing_torn at bytes image = record {
 pub reads_left : (initial : List ℕ) (calls : List Change) → MayLeave initial calls (content_after initial calls)
 reads_left initial [] = refl
 reads_left initial (Wrote at bytes ∷ earlier) = inl refl
-reads_left initial (Tried at bytes ∷ earlier) = (content_after initial earlier, reads_left initial earlier, nothing_torn at bytes (content_after initial earlier))
+reads_left initial (Tried at bytes size ∷ earlier) = (content_after initial earlier, reads_left initial earlier, nothing_torn at bytes (content_after initial earlier), omega arith)
 reads_left initial (Synced ∷ earlier) = refl
 
 -- the same of an option

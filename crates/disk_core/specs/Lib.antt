@@ -7,3 +7,4 @@ pub mod HistoryLaws
 pub mod HistoryView
 pub mod Memory
 pub mod Moments
+pub mod Places

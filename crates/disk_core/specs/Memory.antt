@@ -1,6 +1,7 @@
 -- A disk in memory, whose calls fail where they are named or find too little room.
-use Rattle.std.specs.Prelude.{ℕ, ◌+◌, ◌-◌, ◌*◌, ◌^◌, min, List, ◌∷◌, length, Result, Ok, Err, is_ok, is_err, nat_le, if◌then◌else◌}
+use Rattle.std.specs.Prelude.{ℕ, ◌+◌, ◌-◌, ◌*◌, ◌^◌, min, List, [], ◌∷◌, length, Result, Ok, Err, is_ok, is_err, nat_le, if◌then◌else◌}
 use Rattle.disk_core.specs.History.{Change, Wrote, Tried, Synced, content_after, MayLeave, LeftSince}
+use Rattle.disk_core.specs.Places.{at_sync}
 
 -- one more, or the same at the end of the type
 abbrev pub one_more : ℕ → ℕ
@@ -21,6 +22,10 @@ pub record MemoryView : Type 0 where
 abbrev pub content_of : MemoryView → List ℕ
 content_of d = content_after d.initial d.calls
 
+-- what a read gave at the last sync
+abbrev pub synced_of : MemoryView → List ℕ
+synced_of d = at_sync d.initial d.calls
+
 -- what a crash now may leave
 abbrev pub leaves : MemoryView → List ℕ → Type 0
 leaves d = MayLeave d.initial d.calls
@@ -28,6 +33,10 @@ leaves d = MayLeave d.initial d.calls
 -- what a crash since a moment may have left
 abbrev pub left : MemoryView → ℕ → List ℕ → Type 0
 left d t = LeftSince d.initial t d.calls
+
+-- a disk of these bytes with so much room, of which no call is named
+abbrev pub fresh : List ℕ → ℕ → MemoryView
+fresh bytes room = record { initial = bytes; calls = []; room = room; changes = 0; reads = 0; failing_changes = []; failing_reads = []; faults = 0 }
 
 -- the room that a change call of n bytes uses
 abbrev pub room_of : ℕ → ℕ
@@ -52,7 +61,7 @@ after_change n result d = record d { room = room_after n d.room; changes = one_m
 -- a write is one of the calls since, also where it failed, but not if it found too little room
 abbrev pub calls_after_write : {T E : Type 0} → ℕ → List ℕ → Result T E → MemoryView → List Change
 calls_after_write at bytes (Ok _) d = Wrote at bytes ∷ d.calls
-calls_after_write at bytes (Err _) d = if nat_le (room_of (length bytes)) d.room then Tried at bytes ∷ d.calls else d.calls
+calls_after_write at bytes (Err _) d = if nat_le (room_of (length bytes)) d.room then Tried at bytes (length (content_of d)) ∷ d.calls else d.calls
 
 -- the disk after a write
 abbrev pub after_write : {T E : Type 0} → ℕ → List ℕ → Result T E → MemoryView → MemoryView

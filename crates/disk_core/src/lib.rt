@@ -6,6 +6,7 @@ mod file;
 mod history;
 mod memory;
 mod store;
+mod tear;
 #[cfg(test)]
 mod tests;
 

@@ -1,11 +1,13 @@
 // A disk in memory, which tells its bytes and fails at the calls that it is told to.
-ghost use Rattle.std.specs.Prelude.{◌≡◌, ◌⊎◌, ◌↔◌, ◌+◌, ◌<◌, ◌≤◌, [], Some, length, Contains, IsTrue, IsErr, IfOk, OnOk, OnErr, vec_len, vec_capacity};
+ghost use Rattle.std.specs.Prelude.{◌≡◌, ◌⊎◌, ◌↔◌, ◌+◌, ◌<◌, ◌≤◌, List, ℕ, [], Some, length, slice_index, EachIndex, Contains, IsTrue, IsErr, IfOk, OnOk, OnErr, vec_len, vec_capacity};
 ghost use Rattle.causes.specs.Causes.{HasCause};
 ghost use Rattle.disk_core.specs.Crash.{Elapses, Follows, NoneNew, Only, Tears};
 ghost use Rattle.disk_core.specs.Device.{Measures, Reads, Writes, written};
-ghost use Rattle.disk_core.specs.Memory.{one_more, room_of, content_of, leaves, left, after_read, after_write, after_sync};
+ghost use Rattle.disk_core.specs.Places.{choice_for, crashed_byte};
+ghost use Rattle.disk_core.specs.Memory.{one_more, room_of, content_of, synced_of, fresh, leaves, left, after_read, after_write, after_sync};
 
 use crate::history::{Entry, History};
+use crate::tear::tear;
 use crate::{Disk, Failed, OutOfMemory};
 use std::alloc::Global;
 use std::marker::Model;
@@ -15,6 +17,7 @@ use std::marker::Model;
 #[derive(Drop)]
 pub struct MemDisk {
     initial: Vec<u8>,
+    synced: Vec<u8>,
     content: Vec<u8>,
     history: History,
     changes: Calls,
@@ -26,6 +29,7 @@ impl Model for MemDisk {
     ghost use Rattle.std.specs.Prelude.{◌≡◌, ◌+◌, ◌*◌, ◌≤◌, vec_len, vec_capacity};
     ghost use Rattle.disk_core.specs.Memory.{MemoryView};
     ghost use Rattle.disk_core.specs.History.{content_after};
+    ghost use Rattle.disk_core.specs.Places.{at_sync, BeginInside};
 
     ghost Value = { MemoryView };
 
@@ -40,32 +44,30 @@ impl Model for MemDisk {
       faults = d.faults;
     } };
 
-    ghost invariant = { λ d.
-        (d.content.items ≡ content_after d.initial.items d.history.calls)
-        × (2 * vec_len d.content + d.history.room ≤ 2 * vec_capacity d.content)
-        × (2 * vec_len d.content + d.history.room ≤ 2 * vec_capacity d.initial) };
+    ghost invariant = { λ d. record {
+      content : d.content.items ≡ content_after d.initial.items d.history.calls;
+      synced : d.synced.items ≡ at_sync d.initial.items d.history.calls;
+      inside : BeginInside d.initial.items d.history.calls;
+      content_room : 2 * vec_len d.content + d.history.room ≤ 2 * vec_capacity d.content;
+      synced_room : 2 * vec_len d.content + d.history.room ≤ 2 * vec_capacity d.synced;
+      initial_room : 2 * vec_len d.content + d.history.room ≤ 2 * vec_capacity d.initial;
+    } };
 }
 
 impl MemDisk {
     /// A disk with these bytes and `room` bytes for what its change calls keep. No call is named.
     pub fn new(alloc: Global, bytes: Vec<u8>, room: u64) -> Result<MemDisk, OutOfMemory>
-        ensures { IfOk result (λ disk. disk ≡ record {
-          initial = bytes.items;
-          calls = [];
-          room = room;
-          changes = 0;
-          reads = 0;
-          failing_changes = [];
-          failing_reads = [];
-          faults = 0;
-        }) }
+        ensures { IfOk result (λ disk. disk ≡ fresh bytes.items room) }
     {
         let mut content = bytes;
         content.reserve_exact(room.div_ceil(2) as usize)?;
         let mut initial = Vec::with_capacity(alloc, content.capacity())?;
-        initial.extend_from_slice(&content)?;
+        let mut synced = Vec::with_capacity(alloc, content.capacity())?;
+        refill(&mut initial, &content);
+        refill(&mut synced, &content);
         Ok(MemDisk {
             initial,
+            synced,
             content,
             history: History::new(alloc, room)?,
             changes: Calls::naming(Vec::new(alloc)),
@@ -97,6 +99,53 @@ impl MemDisk {
     {
         self.content.as_slice()
     }
+
+    /// How many bytes a crash now leaves at least: as many as there were at the last sync. At most it leaves as many
+    /// as there are.
+    pub fn least_size(&self) -> u64
+        ensures least { result ≡ length (synced_of self.now) }
+        ensures most { result ≤ length (content_of self.now) }
+    {
+        self.synced.as_slice().len() as u64
+    }
+
+    /// The disk that a crash leaves, of that size. In the order of their places, each byte that a write since the last
+    /// sync has written takes the next byte of `choice`, which repeats, where a crash may leave that there, and else
+    /// is what it was at the last sync, 0 past the end then. With an empty `choice` each byte is as a read gives it.
+    /// The new disk has the room that was left.
+    pub fn crash(mut self, choice: &[u8], size: u64) -> MemDisk
+        requires least { length (synced_of self) ≤ size }
+        requires most { size ≤ length (content_of self) }
+
+        // It gives an image that a crash may leave, and each image of that size for some choice.
+        ensures image { leaves self (content_of result) }
+        ensures every_image { (image : List ℕ) → leaves self image → length image ≡ size → choice.now ≡ choice_for self.calls 0 image → content_of result ≡ image }
+
+        ensures size { length (content_of result) ≡ size }
+        ensures bytes { EachIndex (content_of result) (λ place. slice_index (content_of result) place
+            ≡ crashed_byte (synced_of self) (content_of self) self.calls choice.now place) }
+        ensures fresh { result ≡ fresh (content_of result) self.room }
+    {
+        self.content.truncate(size as usize);
+        tear(&mut self.content, &self.synced, &self.history, choice);
+        refill(&mut self.initial, &self.content);
+        refill(&mut self.synced, &self.content);
+        self.history.forget();
+        self.changes.forget();
+        self.reads.forget();
+        self.faults = 0;
+        self
+    }
+}
+
+// Puts other bytes in place of those that are there.
+fn refill(bytes: &mut Vec<u8>, with: &[u8])
+    requires { length with.now ≤ vec_capacity bytes.old }
+    ensures items { bytes.new.items ≡ with.now }
+    ensures capacity { vec_capacity bytes.old ≤ vec_capacity bytes.new }
+{
+    bytes.clear();
+    bytes.extend_from_slice(with).unwrap();
 }
 
 // Calls of one kind: how many there were, and which of them are to fail.
@@ -111,6 +160,14 @@ impl Calls {
         ensures { result ≡ record { made = 0; failing = failing } }
     {
         Calls { made: 0, failing }
+    }
+
+    fn forget(&mut self)
+        ensures made { self.new.made ≡ 0 }
+        ensures failing { self.new.failing.items ≡ [] }
+    {
+        self.made = 0;
+        self.failing.clear();
     }
 
     // Counts one more, and says whether it is to fail.
@@ -221,7 +278,8 @@ impl Disk for MemDisk {
         let at = at as usize;
         let len = bytes.len();
         if named {
-            self.history.keep(Entry::Attempt { at, len }, bytes);
+            let size = self.content.len();
+            self.history.keep(Entry::Attempt { at, len, size }, bytes);
             return Err(fail(&mut self.faults));
         }
         put(&mut self.content, at, bytes);
@@ -248,6 +306,7 @@ impl Disk for MemDisk {
             self.history.spend(0);
             return Err(fail(&mut self.faults));
         }
+        refill(&mut self.synced, &self.content);
         self.history.keep(Entry::Sync, &[]);
         Ok(())
     }
