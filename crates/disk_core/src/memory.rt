@@ -3,7 +3,7 @@ ghost use Rattle.std.specs.Prelude.{◌≡◌, ◌⊎◌, ◌↔◌, ◌+◌, �
 ghost use Rattle.causes.specs.Causes.{HasCause};
 ghost use Rattle.disk_core.specs.Crash.{Elapses, Follows, NoneNew, Only, Tears};
 ghost use Rattle.disk_core.specs.Device.{Measures, Reads, Writes, written};
-ghost use Rattle.disk_core.specs.Places.{choice_for, crashed_byte};
+ghost use Rattle.disk_core.specs.Places.{IsImage, choice_for, crashed_byte};
 ghost use Rattle.disk_core.specs.Memory.{one_more, room_of, content_of, synced_of, fresh, leaves, left, after_read, after_write, after_sync};
 
 use crate::history::{Entry, History};
@@ -105,6 +105,7 @@ impl MemDisk {
     pub fn least_size(&self) -> u64
         ensures least { result ≡ length (synced_of self.now) }
         ensures most { result ≤ length (content_of self.now) }
+        ensures each_image { (image : List ℕ) → leaves self.now image → (result ≤ length image) × (length image ≤ length (content_of self.now)) }
     {
         self.synced.as_slice().len() as u64
     }
@@ -120,6 +121,9 @@ impl MemDisk {
         // It gives an image that a crash may leave, and each image of that size for some choice.
         ensures image { leaves self (content_of result) }
         ensures every_image { (image : List ℕ) → leaves self image → length image ≡ size → choice.now ≡ choice_for self.calls 0 image → content_of result ≡ image }
+
+        // The images, told call by call, are those told place by place.
+        ensures places { (image : List ℕ) → leaves self image ↔ IsImage self.initial self.calls image }
 
         ensures size { length (content_of result) ≡ size }
         ensures bytes { EachIndex (content_of result) (λ place. slice_index (content_of result) place

@@ -6,6 +6,20 @@ use std::fs::File;
 use std::test::Fail;
 
 #[test]
+fn each_file_has_its_name(rt: HostRuntime) -> Result<(), Fail> {
+    let lane = |lane, odd| FileName::Lane { lane, odd };
+    for (file, name) in [
+        (FileName::AreaA, "area.a"),
+        (FileName::AreaB, "area.b"),
+        (lane(0, false), "lane0.even"),
+        (lane(65535, true), "lane65535.odd"),
+    ] {
+        assert_eq!(rt; format!(in rt.alloc(); "{file}")?.as_str(), name);
+    }
+    Ok(())
+}
+
+#[test]
 fn a_disk_in_memory_keeps_what_is_written_and_fails_where_it_is_told(
     rt: HostRuntime,
 ) -> Result<(), Fail> {

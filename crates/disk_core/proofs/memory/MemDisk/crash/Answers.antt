@@ -4,6 +4,7 @@ use Rattle.disk_core.specs.History.{content_after, MayLeave}
 use Rattle.disk_core.specs.Memory.{content_of, synced_of}
 use Rattle.disk_core.specs.Places.{at_sync}
 use Rattle.disk_core.proofs.Chosen.{torn_byte, torn_left, torn_by_choice}
+use Rattle.disk_core.proofs.Places.{is_image, may_leave}
 use Rattle.disk_core.proofs.memory.MemDisk.crash.Goals as goal
 
 pub returns-clause-image : goal.returns-clause-image
@@ -47,3 +48,8 @@ returns-clause-bytes c =
     let refilled : c.refill.new.bytes.items ≡ made = grind (arith, common_steps) in
     let reads : content_after c.refill.new.bytes.items c.forget.new.self.calls ≡ made = ap (λ h. content_after c.refill.new.bytes.items h.calls) c.forget.ensures ∙ refilled in
     rw (← c.self.view_is) (λ k lt. ap (λ (l : List ℕ). get_or l k 0) reads ∙ torn_byte d.initial.items calls c.self.invariant.inside c.args.choice.now made c.deref.result.now c.deref_mut.result.now c.args.size synced cut least most long c.tear.ensures k (omega (arith, ap length reads)))
+
+pub returns-clause-places : goal.returns-clause-places
+returns-clause-places c =
+    let d = c.self.inside in
+    rw (← c.self.view_is) (λ image. (is_image d.initial.items d.history.calls c.self.invariant.inside image, may_leave d.initial.items d.history.calls c.self.invariant.inside image))
