@@ -28,7 +28,8 @@ pub trait Disk {
         ensures size { Measures (content self.old) result }
         ensures same { content self.new ≡ content self.old }
         ensures crash { NoneNew (may_leave self.old) (may_leave self.new) }
-        ensures time { Elapses (moment self.old) (moment self.new) (left_since self.old) (left_since self.new) (may_leave self.new) }
+        ensures time { Elapses (moment self.old) (moment self.new)
+            (left_since self.old) (left_since self.new) (may_leave self.new) }
         ensures cause { HasCause (faults self.old) (faults self.new) result };
 
     /// Fills `into` with the bytes from `at` on, all of which have to be there.
@@ -37,7 +38,8 @@ pub trait Disk {
         ensures bytes { Reads (content self.old) at result into.new }
         ensures same { content self.new ≡ content self.old }
         ensures crash { NoneNew (may_leave self.old) (may_leave self.new) }
-        ensures time { Elapses (moment self.old) (moment self.new) (left_since self.old) (left_since self.new) (may_leave self.new) }
+        ensures time { Elapses (moment self.old) (moment self.new)
+            (left_since self.old) (left_since self.new) (may_leave self.new) }
         ensures cause { HasCause (faults self.old) (faults self.new) result };
 
     /// Writes over what is there, and past the end. It begins at most at the end. Where it fails, any
@@ -47,7 +49,8 @@ pub trait Disk {
         requires { ForSome (content self.old) (λ old. at ≤ length old) }
         ensures written { Writes (content self.old) at bytes.now result (content self.new) }
         ensures crash { Follows (Tears at bytes.now) (may_leave self.old) (may_leave self.new) }
-        ensures time { Elapses (moment self.old) (moment self.new) (left_since self.old) (left_since self.new) (may_leave self.new) }
+        ensures time { Elapses (moment self.old) (moment self.new)
+            (left_since self.old) (left_since self.new) (may_leave self.new) }
         ensures cause { HasCause (faults self.old) (faults self.new) result };
 
     /// After it a crash leaves what a read gives.
@@ -55,14 +58,17 @@ pub trait Disk {
         ensures same { content self.new ≡ content self.old }
         ensures crash { NoneNew (may_leave self.old) (may_leave self.new) }
         ensures durable { OnOk result (NothingPending (content self.new) (may_leave self.new)) }
-        ensures time { Elapses (moment self.old) (moment self.new) (left_since self.old) (left_since self.new) (may_leave self.new) }
+        ensures time { Elapses (moment self.old) (moment self.new)
+            (left_since self.old) (left_since self.new) (may_leave self.new) }
         ensures cause { HasCause (faults self.old) (faults self.new) result };
 
     /// A crash now is one of those since an earlier moment.
-    ghost counts_now: { (disk : Self) (t : ℕ) (image : List ℕ) → t ≤ moment disk → may_leave disk image → left_since disk t image };
+    ghost counts_now: { (disk : Self) (t : ℕ) (image : List ℕ) →
+        t ≤ moment disk → may_leave disk image → left_since disk t image };
 
     /// Since this moment there is no other.
-    ghost only_now: { (disk : Self) (image : List ℕ) → left_since disk (moment disk) image → may_leave disk image };
+    ghost only_now: { (disk : Self) (image : List ℕ) →
+        left_since disk (moment disk) image → may_leave disk image };
 
     /// A crash may leave the disk as it reads.
     ghost leaves_as_read: { (disk : Self) → ForSome (content disk) (may_leave disk) };

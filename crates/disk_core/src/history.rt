@@ -3,15 +3,15 @@ ghost use Rattle.std.specs.Prelude.{◌≡◌, ◌↔◌, ◌+◌, ◌-◌, ◌<
 ghost use Rattle.disk_core.specs.Memory.{room_of};
 ghost use Rattle.disk_core.specs.Entries.{change_of, len_of};
 ghost use Rattle.disk_core.specs.History.{Change};
-ghost use Rattle.disk_core.specs.Places as Places;
+ghost use Rattle.disk_core.specs.Places;
 ghost use Rattle.disk_core.specs.Places.{is_written, is_left};
 
 use crate::OutOfMemory;
 use std::alloc::Global;
 use std::marker::Model;
 
-/// A change call: a write that succeeded, one that failed after it had begun on a
-/// disk of that size, or a sync that succeeded.
+/// A change call: a write that succeeded, one that failed after it had begun on a disk of that size, or a sync that
+/// succeeded.
 #[derive(Clone, Copy)]
 pub(crate) enum Entry {
     Write { at: usize, len: usize },
@@ -33,7 +33,8 @@ impl Entry {
 
     // Whether the call of this entry or one before it has written a place since the last sync.
     fn has_written(&self, bytes: &[u8], place: usize, earlier: bool) -> bool
-        ensures { (calls : List Change) → earlier ≡ is_written calls place → result ≡ is_written (change_of self.now bytes.now ∷ calls) place }
+        ensures { (calls : List Change) → earlier ≡ is_written calls place →
+            result ≡ is_written (change_of self.now bytes.now ∷ calls) place }
     {
         match *self {
             Entry::Write { at, .. } => is_in_range(at, bytes.len(), place) || earlier,
@@ -46,7 +47,8 @@ impl Entry {
 
     // Whether that may have left this byte there.
     fn has_left(&self, bytes: &[u8], place: usize, byte: u8, earlier: bool) -> bool
-        ensures { (calls : List Change) → earlier ≡ is_left calls place byte → result ≡ is_left (change_of self.now bytes.now ∷ calls) place byte }
+        ensures { (calls : List Change) → earlier ≡ is_left calls place byte →
+            result ≡ is_left (change_of self.now bytes.now ∷ calls) place byte }
     {
         match *self {
             Entry::Write { at, .. } => {
@@ -131,7 +133,10 @@ impl History {
     pub(crate) fn keep(&mut self, entry: Entry, bytes: &[u8])
         requires room { room_of (length bytes.now) ≤ self.old.room }
         requires len { len_of entry ≡ length bytes.now }
-        ensures { self.new ≡ record { calls = change_of entry bytes.now ∷ self.old.calls; room = self.old.room - room_of (length bytes.now) } }
+        ensures { self.new ≡ record {
+          calls = change_of entry bytes.now ∷ self.old.calls;
+          room = self.old.room - room_of (length bytes.now);
+        } }
     {
         self.entries.push(entry).unwrap();
         self.bytes.extend_from_slice(bytes).unwrap();

@@ -105,7 +105,8 @@ impl MemDisk {
     pub fn least_size(&self) -> u64
         ensures least { result ≡ length (synced_of self.now) }
         ensures most { result ≤ length (content_of self.now) }
-        ensures each_image { (image : List ℕ) → leaves self.now image → (result ≤ length image) × (length image ≤ length (content_of self.now)) }
+        ensures each_image { (image : List ℕ) → leaves self.now image →
+            (result ≤ length image) × (length image ≤ length (content_of self.now)) }
     {
         self.synced.as_slice().len() as u64
     }
@@ -120,10 +121,12 @@ impl MemDisk {
 
         // It gives an image that a crash may leave, and each image of that size for some choice.
         ensures image { leaves self (content_of result) }
-        ensures every_image { (image : List ℕ) → leaves self image → length image ≡ size → choice.now ≡ choice_for self.calls 0 image → content_of result ≡ image }
+        ensures every_image { (image : List ℕ) → leaves self image → length image ≡ size →
+            choice.now ≡ choice_for self.calls 0 image → content_of result ≡ image }
 
         // The images, told call by call, are those told place by place.
-        ensures places { (image : List ℕ) → leaves self image ↔ IsImage self.initial self.calls image }
+        ensures places { (image : List ℕ) →
+            leaves self image ↔ IsImage self.initial self.calls image }
 
         ensures size { length (content_of result) ≡ size }
         ensures bytes { EachIndex (content_of result) (λ place. slice_index (content_of result) place
@@ -229,7 +232,8 @@ impl Disk for MemDisk {
         ensures size { Measures (Some (content_of self.old)) result }
         ensures same { content_of self.new ≡ content_of self.old }
         ensures crash { NoneNew (leaves self.old) (leaves self.new) }
-        ensures time { Elapses (length self.old.calls) (length self.new.calls) (left self.old) (left self.new) (leaves self.new) }
+        ensures time { Elapses (length self.old.calls) (length self.new.calls)
+            (left self.old) (left self.new) (leaves self.new) }
         ensures cause { HasCause self.old.faults self.new.faults result }
 
         // It fails exactly where it is named, and changes nothing but what is counted.
@@ -247,7 +251,8 @@ impl Disk for MemDisk {
         ensures bytes { Reads (Some (content_of self.old)) at result into.new }
         ensures same { content_of self.new ≡ content_of self.old }
         ensures crash { NoneNew (leaves self.old) (leaves self.new) }
-        ensures time { Elapses (length self.old.calls) (length self.new.calls) (left self.old) (left self.new) (leaves self.new) }
+        ensures time { Elapses (length self.old.calls) (length self.new.calls)
+            (left self.old) (left self.new) (leaves self.new) }
         ensures cause { HasCause self.old.faults self.new.faults result }
 
         // It fails exactly where it is named, and then gives nothing; it changes nothing but what is counted.
@@ -267,11 +272,13 @@ impl Disk for MemDisk {
         requires { at ≤ length (content_of self.old) }
         ensures written { Writes (Some (content_of self.old)) at bytes.now result (Some (content_of self.new)) }
         ensures crash { Follows (Tears at bytes.now) (leaves self.old) (leaves self.new) }
-        ensures time { Elapses (length self.old.calls) (length self.new.calls) (left self.old) (left self.new) (leaves self.new) }
+        ensures time { Elapses (length self.old.calls) (length self.new.calls)
+            (left self.old) (left self.new) (leaves self.new) }
         ensures cause { HasCause self.old.faults self.new.faults result }
 
         // It fails exactly where it is named or finds too little room, and then a read gives what it gave before.
-        ensures named { IsErr result ↔ Contains self.old.failing_changes (one_more self.old.changes) ⊎ (self.old.room < room_of (length bytes.now)) }
+        ensures named { IsErr result ↔ Contains self.old.failing_changes (one_more self.old.changes)
+            ⊎ (self.old.room < room_of (length bytes.now)) }
         ensures nothing { OnErr result (content_of self.new ≡ content_of self.old) }
         ensures counted { self.new ≡ after_write at bytes.now result self.old }
     {
@@ -295,11 +302,13 @@ impl Disk for MemDisk {
         ensures same { content_of self.new ≡ content_of self.old }
         ensures crash { NoneNew (leaves self.old) (leaves self.new) }
         ensures durable { OnOk result (Only (content_of self.new) (leaves self.new)) }
-        ensures time { Elapses (length self.old.calls) (length self.new.calls) (left self.old) (left self.new) (leaves self.new) }
+        ensures time { Elapses (length self.old.calls) (length self.new.calls)
+            (left self.old) (left self.new) (leaves self.new) }
         ensures cause { HasCause self.old.faults self.new.faults result }
 
         // It fails exactly where it is named or finds too little room, and then a crash may leave what it might before.
-        ensures named { IsErr result ↔ Contains self.old.failing_changes (one_more self.old.changes) ⊎ (self.old.room < room_of 0) }
+        ensures named { IsErr result ↔ Contains self.old.failing_changes (one_more self.old.changes)
+            ⊎ (self.old.room < room_of 0) }
         ensures counted { self.new ≡ after_sync result self.old }
     {
         let named = self.changes.count();
