@@ -1,4 +1,5 @@
 pub mod Calls
 pub mod Chosen
 pub mod Images
+pub mod Moments
 pub mod Places

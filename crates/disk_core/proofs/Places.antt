@@ -1,5 +1,5 @@
 -- The images after some calls are those that hold at each place what it may hold.
-use Rattle.std.proofs.Common.{◌≡◌, ◌⊎◌, inl, inr, ⊎_elim, ℕ, zero, suc, ◌+◌, ◌-◌, ◌<◌, ◌≤◌, min, max, true, false, List, [], ◌∷◌, length, take, drop, get_or, refl, sym, ◌∙◌, ap, subst, arith}
+use Rattle.std.proofs.Common.{◌≡◌, ◌⊎◌, inl, inr, ⊎_elim, ℕ, zero, suc, ◌+◌, ◌-◌, ◌<◌, ◌≤◌, min, max, true, false, ◌&&◌, nat_le, nat_lt, List, [], ◌∷◌, length, take, drop, get_or, refl, sym, ◌∙◌, ap, subst, arith}
 use Rattle.std.proofs.lemmas.List.{length-take, length-drop, get_or-take, get_or-drop, get_or_past, ext_get_or}
 use Rattle.std.proofs.lemmas.Bool.{cases_lt, or_cases, or_left, or_right, and_parts, and_from, ltb-true, leb-true, lt-ltb, le-leb, eqb-true, eq-eqb}
 use Rattle.disk_core.specs.Device.{Torn, written}
@@ -94,12 +94,12 @@ module _ (initial : List ℕ) where
   none_past (Wrote at bytes ∷ earlier) begin k byte past is =
       let long = length-written at bytes (content_after initial earlier) begin.0 in
       ⊎_elim
-      (λ here. let lt : k < at + length bytes = ltb-true k (at + length bytes) (and_parts _ _ (and_parts _ _ here).0).1 in absurd (omega (arith, long)))
+      (λ (here : (is_in_range at (length bytes) k && is_left_of bytes byte) ≡ true). let lt : k < at + length bytes = ltb-true k (at + length bytes) (and_parts (nat_le at k) (nat_lt k (at + length bytes)) (and_parts (is_in_range at (length bytes) k) (is_left_of bytes byte) here).0).1 in absurd (omega (arith, long)))
       (λ before. none_past earlier begin.1 k byte (omega (arith, long)) before)
       (or_cases _ _ is)
   none_past (Tried at bytes size ∷ earlier) begin k byte past is =
       ⊎_elim
-      (λ here. let lt : k < size = ltb-true k size (and_parts _ _ (and_parts _ _ here).0).1 in absurd (omega (arith, begin.1)))
+      (λ (here : (is_in_range at (length bytes) k && nat_lt k size && is_left_of bytes byte) ≡ true). let lt : k < size = ltb-true k size (and_parts (is_in_range at (length bytes) k) (nat_lt k size) (and_parts (is_in_range at (length bytes) k && nat_lt k size) (is_left_of bytes byte) here).0).1 in absurd (omega (arith, begin.1)))
       (λ before. none_past earlier begin.2 k byte past before)
       (or_cases _ _ is)
   none_past (Synced ∷ earlier) begin k byte past is = cc

@@ -6,5 +6,4 @@ pub mod History
 pub mod HistoryLaws
 pub mod HistoryView
 pub mod Memory
-pub mod Moments
 pub mod Places

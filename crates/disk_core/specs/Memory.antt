@@ -27,22 +27,22 @@ abbrev pub synced_of : MemoryView → List ℕ
 synced_of d = at_sync d.initial d.calls
 
 -- what a crash now may leave
-abbrev pub leaves : MemoryView → List ℕ → Type 0
-leaves d = MayLeave d.initial d.calls
+abbrev pub CrashLeaves : MemoryView → List ℕ → Type 0
+CrashLeaves d = MayLeave d.initial d.calls
 
 -- what a crash since a moment may have left
-abbrev pub left : MemoryView → ℕ → List ℕ → Type 0
-left d t = LeftSince d.initial t d.calls
+abbrev pub CrashLeftSince : MemoryView → ℕ → List ℕ → Type 0
+CrashLeftSince d t = LeftSince d.initial t d.calls
 
 -- a disk of these bytes with so much room, of which no call is named
-abbrev pub fresh : List ℕ → ℕ → MemoryView
-fresh bytes room = record { initial = bytes; calls = []; room = room; changes = 0; reads = 0; failing_changes = []; failing_reads = []; faults = 0 }
+abbrev pub new_disk : List ℕ → ℕ → MemoryView
+new_disk bytes room = record { initial = bytes; calls = []; room = room; changes = 0; reads = 0; failing_changes = []; failing_reads = []; faults = 0 }
 
 -- the room that a change call of n bytes uses
 abbrev pub room_of : ℕ → ℕ
 room_of n = 2 * n + 64
 
--- what such a call leaves of the room: where there is too little it uses none
+-- what such a call CrashLeaves of the room: where there is too little it uses none
 abbrev pub room_after : ℕ → ℕ → ℕ
 room_after n room = if nat_le (room_of n) room then room - room_of n else room
 

@@ -4,7 +4,7 @@ ghost use Rattle.causes.specs.Causes.{HasCause};
 ghost use Rattle.disk_core.specs.Crash.{Elapses, Follows, NoneNew, Only, Tears};
 ghost use Rattle.disk_core.specs.Device.{Measures, Reads, Writes, written};
 ghost use Rattle.disk_core.specs.Places.{IsImage, choice_for, crashed_byte};
-ghost use Rattle.disk_core.specs.Memory.{one_more, room_of, content_of, synced_of, fresh, leaves, left, after_read, after_write, after_sync};
+ghost use Rattle.disk_core.specs.Memory.{one_more, room_of, content_of, synced_of, new_disk, CrashLeaves, CrashLeftSince, after_read, after_write, after_sync};
 
 use crate::history::{Entry, History};
 use crate::tear::tear;
@@ -57,7 +57,7 @@ impl Model for MemDisk {
 impl MemDisk {
     /// A disk with these bytes and `room` bytes for what its change calls keep. No call is named.
     pub fn new(alloc: Global, bytes: Vec<u8>, room: u64) -> Result<MemDisk, OutOfMemory>
-        ensures { IfOk result (λ disk. disk ≡ fresh bytes.items room) }
+        ensures { IfOk result (λ disk. disk ≡ new_disk bytes.items room) }
     {
         let mut content = bytes;
         content.reserve_exact(room.div_ceil(2) as usize)?;
@@ -105,7 +105,7 @@ impl MemDisk {
     pub fn least_size(&self) -> u64
         ensures least { result ≡ length (synced_of self.now) }
         ensures most { result ≤ length (content_of self.now) }
-        ensures each_image { (image : List ℕ) → leaves self.now image →
+        ensures each_image { (image : List ℕ) → CrashLeaves self.now image →
             (result ≤ length image) × (length image ≤ length (content_of self.now)) }
     {
         self.synced.as_slice().len() as u64
@@ -120,18 +120,18 @@ impl MemDisk {
         requires most { size ≤ length (content_of self) }
 
         // It gives an image that a crash may leave, and each image of that size for some choice.
-        ensures image { leaves self (content_of result) }
-        ensures every_image { (image : List ℕ) → leaves self image → length image ≡ size →
+        ensures image { CrashLeaves self (content_of result) }
+        ensures every_image { (image : List ℕ) → CrashLeaves self image → length image ≡ size →
             choice.now ≡ choice_for self.calls 0 image → content_of result ≡ image }
 
         // The images, told call by call, are those told place by place.
         ensures places { (image : List ℕ) →
-            leaves self image ↔ IsImage self.initial self.calls image }
+            CrashLeaves self image ↔ IsImage self.initial self.calls image }
 
         ensures size { length (content_of result) ≡ size }
         ensures bytes { EachIndex (content_of result) (λ place. slice_index (content_of result) place
             ≡ crashed_byte (synced_of self) (content_of self) self.calls choice.now place) }
-        ensures fresh { result ≡ fresh (content_of result) self.room }
+        ensures fresh { result ≡ new_disk (content_of result) self.room }
     {
         self.content.truncate(size as usize);
         tear(&mut self.content, &self.synced, &self.history, choice);
@@ -209,16 +209,16 @@ fn put(content: &mut Vec<u8>, at: usize, bytes: &[u8])
 
 impl Disk for MemDisk {
     ghost use Rattle.std.specs.Prelude.{Some, length};
-    ghost use Rattle.disk_core.specs.Memory.{content_of, leaves, left};
+    ghost use Rattle.disk_core.specs.Memory.{content_of, CrashLeaves, CrashLeftSince};
     ghost use Rattle.disk_core.specs.HistoryLaws.{as_read, now_since, since_now};
 
     ghost content = { λ d. Some (content_of d) };
 
-    ghost may_leave = { leaves };
+    ghost may_leave = { CrashLeaves };
 
     ghost moment = { λ d. length d.calls };
 
-    ghost left_since = { left };
+    ghost left_since = { CrashLeftSince };
 
     ghost faults = { λ d. d.faults };
 
@@ -231,9 +231,9 @@ impl Disk for MemDisk {
     fn size(&mut self) -> Result<u64, Failed>
         ensures size { Measures (Some (content_of self.old)) result }
         ensures same { content_of self.new ≡ content_of self.old }
-        ensures crash { NoneNew (leaves self.old) (leaves self.new) }
+        ensures crash { NoneNew (CrashLeaves self.old) (CrashLeaves self.new) }
         ensures time { Elapses (length self.old.calls) (length self.new.calls)
-            (left self.old) (left self.new) (leaves self.new) }
+            (CrashLeftSince self.old) (CrashLeftSince self.new) (CrashLeaves self.new) }
         ensures cause { HasCause self.old.faults self.new.faults result }
 
         // It fails exactly where it is named, and changes nothing but what is counted.
@@ -250,9 +250,9 @@ impl Disk for MemDisk {
         requires { at + length into.old ≤ length (content_of self.old) }
         ensures bytes { Reads (Some (content_of self.old)) at result into.new }
         ensures same { content_of self.new ≡ content_of self.old }
-        ensures crash { NoneNew (leaves self.old) (leaves self.new) }
+        ensures crash { NoneNew (CrashLeaves self.old) (CrashLeaves self.new) }
         ensures time { Elapses (length self.old.calls) (length self.new.calls)
-            (left self.old) (left self.new) (leaves self.new) }
+            (CrashLeftSince self.old) (CrashLeftSince self.new) (CrashLeaves self.new) }
         ensures cause { HasCause self.old.faults self.new.faults result }
 
         // It fails exactly where it is named, and then gives nothing; it changes nothing but what is counted.
@@ -271,9 +271,9 @@ impl Disk for MemDisk {
     fn write_at(&mut self, at: u64, bytes: &[u8]) -> Result<(), Failed>
         requires { at ≤ length (content_of self.old) }
         ensures written { Writes (Some (content_of self.old)) at bytes.now result (Some (content_of self.new)) }
-        ensures crash { Follows (Tears at bytes.now) (leaves self.old) (leaves self.new) }
+        ensures crash { Follows (Tears at bytes.now) (CrashLeaves self.old) (CrashLeaves self.new) }
         ensures time { Elapses (length self.old.calls) (length self.new.calls)
-            (left self.old) (left self.new) (leaves self.new) }
+            (CrashLeftSince self.old) (CrashLeftSince self.new) (CrashLeaves self.new) }
         ensures cause { HasCause self.old.faults self.new.faults result }
 
         // It fails exactly where it is named or finds too little room, and then a read gives what it gave before.
@@ -300,10 +300,10 @@ impl Disk for MemDisk {
 
     fn sync(&mut self) -> Result<(), Failed>
         ensures same { content_of self.new ≡ content_of self.old }
-        ensures crash { NoneNew (leaves self.old) (leaves self.new) }
-        ensures durable { OnOk result (Only (content_of self.new) (leaves self.new)) }
+        ensures crash { NoneNew (CrashLeaves self.old) (CrashLeaves self.new) }
+        ensures durable { OnOk result (Only (content_of self.new) (CrashLeaves self.new)) }
         ensures time { Elapses (length self.old.calls) (length self.new.calls)
-            (left self.old) (left self.new) (leaves self.new) }
+            (CrashLeftSince self.old) (CrashLeftSince self.new) (CrashLeaves self.new) }
         ensures cause { HasCause self.old.faults self.new.faults result }
 
         // It fails exactly where it is named or finds too little room, and then a crash may leave what it might before.
