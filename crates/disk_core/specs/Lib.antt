@@ -1,3 +1,9 @@
+pub mod Crash
 pub mod Device
+pub mod Entries
 pub mod File
+pub mod History
+pub mod HistoryLaws
+pub mod HistoryView
 pub mod Memory
+pub mod Places

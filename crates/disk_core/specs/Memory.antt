@@ -1,13 +1,16 @@
 -- A disk in memory, whose calls fail where they are named or find too little room.
-use Rattle.std.specs.Prelude.{ℕ, ◌+◌, ◌-◌, ◌*◌, ◌^◌, min, List, Result, is_err, nat_le, if◌then◌else◌}
+use Rattle.std.specs.Prelude.{ℕ, ◌+◌, ◌-◌, ◌*◌, ◌^◌, min, List, [], ◌∷◌, length, Result, Ok, Err, is_ok, is_err, nat_le, if◌then◌else◌}
+use Rattle.disk_core.specs.History.{Change, Wrote, Tried, Synced, content_after, MayLeave, LeftSince}
+use Rattle.disk_core.specs.Places.{at_sync}
 
 -- one more, or the same at the end of the type
 abbrev pub one_more : ℕ → ℕ
 one_more n = min (n + 1) (2 ^ 64 - 1)
 
--- what a read gives, the room that is left, how many change calls and read calls there were since their names were given, those names, and how many calls failed
+-- the bytes at first and the change calls since, of which the latest comes first, the room that is left, how many change calls and read calls there were since their names were given, those names, and how many calls failed
 pub record MemoryView : Type 0 where
-  pub content : List ℕ
+  pub initial : List ℕ
+  pub calls : List Change
   pub room : ℕ
   pub changes : ℕ
   pub reads : ℕ
@@ -15,11 +18,31 @@ pub record MemoryView : Type 0 where
   pub failing_reads : List ℕ
   pub faults : ℕ
 
+-- what a read gives
+abbrev pub content_of : MemoryView → List ℕ
+content_of d = content_after d.initial d.calls
+
+-- what a read gave at the last sync
+abbrev pub synced_of : MemoryView → List ℕ
+synced_of d = at_sync d.initial d.calls
+
+-- what a crash now may leave
+abbrev pub CrashLeaves : MemoryView → List ℕ → Type 0
+CrashLeaves d = MayLeave d.initial d.calls
+
+-- what a crash since a moment may have left
+abbrev pub CrashLeftSince : MemoryView → ℕ → List ℕ → Type 0
+CrashLeftSince d t = LeftSince d.initial t d.calls
+
+-- a disk of these bytes with so much room, of which no call is named
+abbrev pub new_disk : List ℕ → ℕ → MemoryView
+new_disk bytes room = record { initial = bytes; calls = []; room = room; changes = 0; reads = 0; failing_changes = []; failing_reads = []; faults = 0 }
+
 -- the room that a change call of n bytes uses
 abbrev pub room_of : ℕ → ℕ
 room_of n = 2 * n + 64
 
--- what such a call leaves of the room: where there is too little it uses none
+-- what such a call CrashLeaves of the room: where there is too little it uses none
 abbrev pub room_after : ℕ → ℕ → ℕ
 room_after n room = if nat_le (room_of n) room then room - room_of n else room
 
@@ -34,3 +57,16 @@ after_read result d = record d { reads = one_more d.reads; faults = faults_after
 -- a change call of n bytes is counted, and its fault if it failed, and uses room; all else stays
 abbrev pub after_change : {T E : Type 0} → ℕ → Result T E → MemoryView → MemoryView
 after_change n result d = record d { room = room_after n d.room; changes = one_more d.changes; faults = faults_after result d.faults }
+
+-- a write is one of the calls since, also where it failed, but not if it found too little room
+abbrev pub calls_after_write : {T E : Type 0} → ℕ → List ℕ → Result T E → MemoryView → List Change
+calls_after_write at bytes (Ok _) d = Wrote at bytes ∷ d.calls
+calls_after_write at bytes (Err _) d = if nat_le (room_of (length bytes)) d.room then Tried at bytes (length (content_of d)) ∷ d.calls else d.calls
+
+-- the disk after a write
+abbrev pub after_write : {T E : Type 0} → ℕ → List ℕ → Result T E → MemoryView → MemoryView
+after_write at bytes result d = record (after_change (length bytes) result d) { calls = calls_after_write at bytes result d }
+
+-- the disk after a sync
+abbrev pub after_sync : {T E : Type 0} → Result T E → MemoryView → MemoryView
+after_sync result d = record (after_change 0 result d) { calls = if is_ok result then Synced ∷ d.calls else d.calls }

@@ -1,6 +1,8 @@
 // A file of the system. It tells no bytes, and counts its faults.
 ghost use Rattle.std.specs.Prelude.{◌≡◌, None, true, length, IsTrue, IsNone, IsErr};
 ghost use Rattle.causes.specs.Causes.{HasCause};
+ghost use Rattle.disk_core.specs.Crash.{Follows, Tears};
+ghost use Rattle.disk_core.specs.File.{AnyImage};
 ghost use Rattle.disk_core.specs.Memory.{faults_after};
 
 use crate::{Disk, Failed};
@@ -92,9 +94,24 @@ fn sync_data(file: &Option<File>) -> Result<(), Failed>
 }
 
 impl Disk for FileDisk {
+    ghost use Rattle.std.specs.Prelude.{None};
+    ghost use Rattle.disk_core.specs.File.{AnyImage};
+
     ghost content = { λ _. None };
 
+    ghost may_leave = { λ _. AnyImage };
+
+    ghost moment = { λ _. 0 };
+
+    ghost left_since = { λ _ _. AnyImage };
+
     ghost faults = { λ f. f.faults };
+
+    ghost counts_now = { λ f t image le now. now };
+
+    ghost only_now = { λ f image now. now };
+
+    ghost leaves_as_read = { λ f image is. tt };
 
     fn size(&mut self) -> Result<u64, Failed>
         ensures cause { HasCause self.old.faults self.new.faults result }
@@ -119,6 +136,7 @@ impl Disk for FileDisk {
     }
 
     fn write_at(&mut self, at: u64, bytes: &[u8]) -> Result<(), Failed>
+        ensures crash { Follows (Tears at bytes.now) AnyImage AnyImage }
         ensures cause { HasCause self.old.faults self.new.faults result }
 
         // A missing file answers nothing else, and each fault is counted once.

@@ -3,8 +3,10 @@
 
 mod disk;
 mod file;
+mod history;
 mod memory;
 mod store;
+mod tear;
 #[cfg(test)]
 mod tests;
 

@@ -1,8 +1,23 @@
 // What no clause says: that the calls succeed with ample memory, and what a file of the system gives.
 use super::*;
+use std::alloc::Global;
 use std::fs;
 use std::fs::File;
 use std::test::Fail;
+
+#[test]
+fn each_file_has_its_name(rt: HostRuntime) -> Result<(), Fail> {
+    let lane = |lane, odd| FileName::Lane { lane, odd };
+    for (file, name) in [
+        (FileName::AreaA, "area.a"),
+        (FileName::AreaB, "area.b"),
+        (lane(0, false), "lane0.even"),
+        (lane(65535, true), "lane65535.odd"),
+    ] {
+        assert_eq!(rt; format!(in rt.alloc(); "{file}")?.as_str(), name);
+    }
+    Ok(())
+}
 
 #[test]
 fn a_disk_in_memory_keeps_what_is_written_and_fails_where_it_is_told(
@@ -28,6 +43,38 @@ fn a_disk_in_memory_keeps_what_is_written_and_fails_where_it_is_told(
     assert_eq!(rt; disk.sync(), Ok(()));
     assert_eq!(rt; disk.sync(), Err(Failed));
     assert_eq!(rt; disk.bytes(), b"abxyz".as_slice());
+    Ok(())
+}
+
+// Reads "Abxyz!", and read "abcd" at its last sync. Its first byte and its last one are written alone.
+fn unsynced(alloc: Global) -> Result<MemDisk, Fail> {
+    let mut disk = MemDisk::new(alloc, b"abcd".to_vec(alloc)?, 1000)?;
+    for (at, bytes) in [(0, b"A".as_slice()), (2, b"xyz"), (5, b"!")] {
+        if at <= disk.bytes().len() {
+            disk.write_at(at as u64, bytes).ok().ok_or("no room")?;
+        }
+    }
+    Ok(disk)
+}
+
+#[test]
+fn a_crash_leaves_what_is_chosen(rt: HostRuntime) -> Result<(), Fail> {
+    let alloc = rt.alloc();
+    for (choice, whole, want) in [
+        (b"".as_slice(), true, b"Abxyz!".as_slice()),
+        (b"", false, b"Abxy"),
+        (b"\0", true, b"ab\0\0\0\0"),
+        (b"\xff", false, b"ab\xff\xff"),
+        (b"A12", true, b"Ab12A\0"),
+        (b"a123!", true, b"ab123!"),
+    ] {
+        let disk = unsynced(alloc)?;
+        let (least, most) = (disk.least_size(), disk.bytes().len() as u64);
+        let size = if whole { most } else { least };
+        let mut left = disk.crash(choice, size);
+        assert_eq!(rt; left.bytes(), want, "choice {choice:?}");
+        assert_eq!(rt; left.sync(), Ok(()));
+    }
     Ok(())
 }
 

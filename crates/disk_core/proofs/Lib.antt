@@ -1,0 +1,6 @@
+pub mod Calls
+pub mod Chosen
+pub mod Images
+pub mod Lone
+pub mod Moments
+pub mod Places
