@@ -3,9 +3,13 @@ pub mod Words
 pub mod Regroup
 pub mod Printing
 pub mod Showing
-pub mod Reading
+pub mod InputSoFar
 pub mod Faults
 pub mod Lines
+pub mod Batches
 pub mod Pairs
+pub mod Pieces
+pub mod Ending
 pub mod Answering
 pub mod Statuses
+pub mod Readings

@@ -17,9 +17,9 @@ unfolding statement_text
 line_has_bytes (Insert key value) = omega arith
 line_has_bytes (Select key) = omega arith
 
-all_push : (ss : List Statement) (s : Statement) → AllByRecursion Fits ss → Fits s → AllByRecursion Fits (ss ++ s ∷ [])
-all_push [] s fits fits_s = (fits_s, tt)
-all_push (x ∷ ss) s fits fits_s = (fits.0, all_push ss s fits.1 fits_s)
+pub all_push : {A : Type 0} (P : A → Type 0) (xs : List A) (y : A) → AllByRecursion P xs → P y → AllByRecursion P (xs ++ y ∷ [])
+all_push P [] y all one = (one, tt)
+all_push P (x ∷ xs) y all one = (all.0, all_push P xs y all.1 one)
 
 module _ (text : List ℕ) (statements : List Statement) (rest : List ℕ) (so_far : LinesSoFar text statements rest) where
   -- at the end of the text there are no further statements
@@ -50,7 +50,7 @@ module _ (text : List ℕ) (statements : List Statement) (rest : List ℕ) (so_f
     text_is =
         so_far.text_is ∙ ap (λ (l : List ℕ). flat_map statement_text statements ++ l) rest_is ∙ sym (append_assoc (flat_map statement_text statements) (statement_text s) behind)
         ∙ ap (λ (l : List ℕ). l ++ behind) (sym (flat_map-append statement_text statements (s ∷ []) ∙ ap (λ (l : List ℕ). flat_map statement_text statements ++ l) (append-nil (statement_text s))));
-    fits = all_push statements s so_far.fits fits_s;
+    fits = all_push Fits statements s so_far.fits fits_s;
     only = λ all fits is. let more = so_far.only all fits is in go all more.0 more.1 more.2 more.3;
   }
     where

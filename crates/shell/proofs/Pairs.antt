@@ -1,18 +1,20 @@
 -- How the pairs change by an insert, in the plain list, in the map and in the log file.
 use Rattle.std.proofs.Common.{◌≡◌, ◌⊎◌, inl, inr, ℕ, ◌+◌, ◌*◌, ◌<◌, ◌≤◌, ℤ, Bool, true, false, cond, List, [], ◌∷◌, ◌++◌, length, map, Option, Some, None, is_some, refl, sym, ◌∙◌, ap, subst, arith, Decides, int_cmp}
 use Rattle.std.specs.Ordering.{int_eq}
-use Rattle.std.specs.BTreeMap.{get, btree_map_len}
+use Rattle.std.specs.BTreeMap.{BTreeMap, get, btree_map_len}
 use Rattle.std.proofs.lemmas.Bool.Decides.{Decides-int_eq, nat_tests}
 use Rattle.std.proofs.lemmas.List.{length-append, map-append}
 use Rattle.lane_format.specs.Writer.{Holds, lane_of, stage_of}
 use Rattle.lane_format.specs.declared.writer.Stage.TheVariants.{Open}
 use Rattle.shell.specs.Kv.{Pairs, value_of, used_bytes, is_full, reply_to, pairs_after, pair_body}
-use Rattle.shell.specs.Keeping.{Keeps}
+use Rattle.shell.specs.Keeping.{IsMapOf, Keeps}
+use Rattle.shell.specs.Log.{FitsPair, MayBeLogged, NoKeyTwice, gate_place, last_end}
+use Rattle.shell.proofs.Lines.{all_push}
 use Rattle.shell.specs.declared.reply.Reply.TheVariants.{Inserted, LogFull}
 use Rattle.shell.specs.declared.statement.Statement.TheVariants.{Insert}
 use Rattle.shell.specs.declared.session.Session.{Session}
 
-eq_cases : (x y : ℤ) → ((x ≡ y) × (int_eq x y ≡ true)) ⊎ ((x ≡ y → ⊥) × (int_eq x y ≡ false))
+pub eq_cases : (x y : ℤ) → ((x ≡ y) × (int_eq x y ≡ true)) ⊎ ((x ≡ y → ⊥) × (int_eq x y ≡ false))
 eq_cases x y = go (int_eq x y) refl (Decides-int_eq x y)
   where
     go : (b : Bool) → int_eq x y ≡ b → Decides (int_eq x y) (x ≡ y) → ((x ≡ y) × (int_eq x y ≡ true)) ⊎ ((x ≡ y → ⊥) × (int_eq x y ≡ false))
@@ -48,9 +50,32 @@ value_of-push (pair ∷ pairs) key value q absent =
       | inr other ↦ rw other.1 step
     ]
 
-none_there : (o : Option ℤ) → is_some o ≡ false → o ≡ None
+pub none_there : (o : Option ℤ) → is_some o ≡ false → o ≡ None
 none_there None is = refl
 none_there (Some x) is = absurd (cc)
+
+-- no key stands twice once a pair of an absent key stands at the end
+apart-push : (pairs : Pairs) (key value : ℤ) → value_of pairs key ≡ None → NoKeyTwice pairs → NoKeyTwice (pairs ++ (key, value) ∷ [])
+apart-push [] key value absent apart = (refl, tt)
+apart-push (pair ∷ pairs) key value absent apart =
+    let rest = absent_rest pair pairs key absent in
+    (value_of-push pairs key value pair.0 rest.1 ∙ rw rest.0 apart.0, apart-push pairs key value rest.1 apart.1)
+
+-- such pairs may be logged as long as there is room
+pub logged-push : (pairs : Pairs) (key value : ℤ) → value_of pairs key ≡ None → FitsPair (key, value) → gate_place (length pairs + 1) ≤ last_end → MayBeLogged pairs → MayBeLogged (pairs ++ (key, value) ∷ [])
+logged-push pairs key value absent fits room logged = record {
+  fit = all_push FitsPair pairs (key, value) logged.fit fits;
+  apart = apart-push pairs key value absent logged.apart;
+  near = omega (arith, room, length-append pairs ((key, value) ∷ []));
+}
+
+-- and a map that got the pair is that of the pairs
+pub map-push : (old new : BTreeMap ℤ ℤ) (pairs : Pairs) (key value : ℤ) → value_of pairs key ≡ None → ((q : ℤ) → get int_cmp new q ≡ cond (int_eq key q) (Some value) (get int_cmp old q))
+    → btree_map_len new ≡ btree_map_len old + 1 → IsMapOf old pairs → IsMapOf new (pairs ++ (key, value) ∷ [])
+map-push old new pairs key value absent updates count is = record {
+  same = λ q. updates q ∙ ap (λ (o : Option ℤ). cond (int_eq key q) (Some value) o) (is.same q) ∙ sym (value_of-push pairs key value q absent);
+  count = omega (arith, count, is.count, length-append pairs ((key, value) ∷ []));
+}
 
 module _ {D : Type 0} (content : D → Option (List ℕ)) (old : Session D) (pairs : Pairs) (key value : ℤ) (keeps : Keeps content old pairs) (absent : is_some (value_of pairs key) ≡ false) where
   -- an insert is refused where the log file is full
@@ -66,15 +91,14 @@ module _ {D : Type 0} (content : D → Option (List ℕ)) (old : Session D) (pai
       (rw (absent, test) refl, rw (absent, test) refl)
 
   -- and then the session keeps one pair more
-  pub one_pair_more : (new : Session D) → used_bytes pairs ≤ 66846592 → ((q : ℤ) → get int_cmp new.pairs q ≡ cond (int_eq key q) (Some value) (get int_cmp old.pairs q)) → btree_map_len new.pairs ≡ btree_map_len old.pairs + 1
-      → lane_of new.writer ≡ lane_of old.writer → stage_of new.writer ≡ Open 2 (11 + 21 * length pairs + 21) → Holds content new.writer 2 (map pair_body pairs ++ pair_body (key, value) ∷ []) → Keeps content new (pairs ++ (key, value) ∷ [])
-  one_pair_more new room updates count lane stage file =
-      let size : length (pairs ++ (key, value) ∷ []) ≡ length pairs + 1 = omega (arith, length-append pairs ((key, value) ∷ [])) in
-      let place : 11 + 21 * length pairs + 21 ≡ 11 + 21 * length (pairs ++ (key, value) ∷ []) = omega (arith, size) in
+  pub one_pair_more : (new : Session D) → FitsPair (key, value) → used_bytes pairs ≤ 66846592 → ((q : ℤ) → get int_cmp new.pairs q ≡ cond (int_eq key q) (Some value) (get int_cmp old.pairs q)) → btree_map_len new.pairs ≡ btree_map_len old.pairs + 1
+      → lane_of new.writer ≡ lane_of old.writer → stage_of new.writer ≡ Open 2 (gate_place (length pairs) + 21) → Holds content new.writer 2 (map pair_body pairs ++ pair_body (key, value) ∷ []) → Keeps content new (pairs ++ (key, value) ∷ [])
+  one_pair_more new fits room updates count lane stage file =
+      let none = none_there (value_of pairs key) absent in
+      let place : gate_place (length pairs) + 21 ≡ gate_place (length (pairs ++ (key, value) ∷ [])) = omega (arith, length-append pairs ((key, value) ∷ [])) in
       record {
-        same = λ q. updates q ∙ ap (λ (o : Option ℤ). cond (int_eq key q) (Some value) o) (keeps.same q) ∙ sym (value_of-push pairs key value q (none_there (value_of pairs key) absent));
-        count = omega (arith, count, keeps.count, size);
-        few = omega (arith, size, room);
+        table = map-push old.pairs new.pairs pairs key value none updates count keeps.table;
+        logged = logged-push pairs key value none fits (omega (arith, room)) keeps.logged;
         lane = lane ∙ keeps.lane;
         stage = stage ∙ ap (λ (n : ℕ). Open 2 n) place;
         file = subst (λ (l : List (List ℕ)). Holds content new.writer 2 l) (sym (map-append pair_body pairs ((key, value) ∷ []))) file;

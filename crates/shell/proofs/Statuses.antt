@@ -6,10 +6,10 @@ use Rattle.causes.specs.Causes.{Rose}
 use Rattle.io_edge.specs.Content.{Content}
 use Rattle.shell.specs.Call.{AllDone, Explains, IsRun, NoScript, ScriptRan}
 use Rattle.shell.specs.Input.{WasRead, read_limit}
-use Rattle.shell.specs.Kv.{pairs_after_all, replies_to}
-use Rattle.shell.specs.Open.{IsOpen}
-use Rattle.shell.specs.Outcome.{IsLogOf}
-use Rattle.shell.specs.Script.{IsScript, statements_in}
+use Rattle.shell.specs.Kv.{Pairs, replies_to}
+use Rattle.shell.specs.Log.{BeginsWith, IsDamaged}
+use Rattle.shell.specs.Outcome.{Finishes}
+use Rattle.shell.specs.Script.{IsScript}
 use Rattle.shell.specs.Shown.{Shows}
 use Rattle.shell.proofs.Showing.{zero_is_done}
 use Rattle.shell.specs.Text.{last_line, shown_text, status_of}
@@ -37,16 +37,26 @@ seven_is_script Source is = absurd (omega (arith, is))
 seven_is_script Script is = refl
 seven_is_script Damaged is = absurd (omega (arith, is))
 
+eight_is_damaged : (end : End) → status_of end ≡ 8 → end ≡ Damaged
+eight_is_damaged Done is = absurd (omega (arith, is))
+eight_is_damaged Usage is = absurd (omega (arith, is))
+eight_is_damaged OutOfMemory is = absurd (omega (arith, is))
+eight_is_damaged (Disk file) is = absurd (omega (arith, is))
+eight_is_damaged Source is = absurd (omega (arith, is))
+eight_is_damaged Script is = absurd (omega (arith, is))
+eight_is_damaged Damaged is = refl
+
 -- what an end says of the call
 module _ {D : Type 0} (words : List (List ℕ)) (before : Option Content) (fell : ℕ) (after : Option Content) (risen : ℕ) (content : D → Option (List ℕ)) (faults : D → ℕ) (disk now : D) where
   abbrev Says : End → Option (List Reply) → Type 0
-  Says Done shown = IsRun words × WasRead before after × (script : Option (List Statement)) × ForSome before (λ content. IsScript (take read_limit content.left) script) × (shown ≡ option_map (replies_to []) script) × ForSome (content now) (IsLogOf (pairs_after_all [] (statements_in script)))
+  Says Done shown =
+      IsRun words × WasRead before after × (script : Option (List Statement)) × ForSome before (λ content. IsScript (take read_limit content.left) script) × (pairs : Pairs) × ForSome (content disk) (BeginsWith pairs) × Finishes pairs script shown (content now)
   Says Usage shown = ¬ (IsRun words)
   Says OutOfMemory shown = IsRun words
   Says (Disk file) shown = IsRun words × Rose (faults disk) (faults now)
   Says Source shown = IsRun words × Rose fell risen
   Says Script shown = IsRun words × ForSome before (λ content. (script : Option (List Statement)) → ¬ (IsScript (take read_limit content.left) script))
-  Says Damaged shown = IsRun words × ForSome (content disk) IsOpen × (content now ≡ content disk)
+  Says Damaged shown = IsRun words × ForSome (content disk) IsDamaged × (content now ≡ content disk)
 
   unread_says : (end : End) (shown : Option (List Reply)) → IsRun words → NoScript before fell end after risen → Says end shown
   unread_says Done shown asks why = absurd why
@@ -58,7 +68,7 @@ module _ {D : Type 0} (words : List (List ℕ)) (before : Option Content) (fell 
   unread_says Damaged shown asks why = absurd why
 
   ran_says : (end : End) (shown : Option (List Reply)) → ScriptRan words before after content faults disk end shown now → Says end shown
-  ran_says Done shown ran = (ran.asks, ran.read, ran.script, ran.is, ran.runs.1, ran.runs.2)
+  ran_says Done shown ran = (ran.asks, ran.read, ran.script, ran.is, ran.runs.0, ran.runs.1, ran.runs.2)
   ran_says Usage shown ran = absurd ran.runs
   ran_says OutOfMemory shown ran = ran.asks
   ran_says (Disk file) shown ran = (ran.asks, ran.runs.1)
@@ -85,7 +95,7 @@ module _ {D : Type 0} (words : List (List ℕ)) (before : Option Content) (fell 
         let text : shown_text replies ≡ shows.front = ap shown_text (sym is) ∙ sym (append-nil (shown_text shown)) ∙ ap (λ (l : List ℕ). shown_text shown ++ l) (sym silent) ∙ shows.text ∙ ap (λ (l : List ℕ). shows.front ++ l) whole ∙ append-nil shows.front in
         shows.took ∙ ap (λ (f : List ℕ). option_map (λ t. t ++ f) start) (sym text)
 
-    pub all_done : status ≡ 0 → AllDone words before after start taken content now
+    pub all_done : status ≡ 0 → AllDone words before after start taken content disk now
     all_done zero =
         let not_six : status ≢ 6 = λ six. omega (arith, zero, six) in
         let done = zero_is_done end (sym (shows.other not_six) ∙ zero) in
@@ -95,8 +105,10 @@ module _ {D : Type 0} (words : List (List ℕ)) (before : Option Content) (fell 
           read = says.1;
           script = says.2;
           is = says.3;
-          took = all_taken (shows.zero zero) (ap last_line done) (option_map (replies_to []) says.2) says.4;
-          kept = says.5;
+          pairs = says.4;
+          opened = says.5;
+          took = all_taken (shows.zero zero) (ap last_line done) (option_map (replies_to says.4) says.2) says.6.replies;
+          kept = says.6.kept;
         }
 
     pub no_run : (status ≡ 2 → ¬ (IsRun words)) × (¬ (IsRun words) → status ≡ 2)
@@ -111,3 +123,9 @@ module _ {D : Type 0} (words : List (List ℕ)) (before : Option Content) (fell 
     no_script seven =
         let not_six : status ≢ 6 = λ six. omega (arith, seven, six) in
         (ends not_six Script (seven_is_script end (sym (shows.other not_six) ∙ seven))).1
+
+    pub stays_damaged : status ≡ 8 → ForSome (content disk) IsDamaged × (content now ≡ content disk)
+    stays_damaged eight =
+        let not_six : status ≢ 6 = λ six. omega (arith, eight, six) in
+        let says = ends not_six Damaged (eight_is_damaged end (sym (shows.other not_six) ∙ eight)) in
+        (says.1, says.2)

@@ -1,5 +1,5 @@
 -- What a word at the front of a text leaves.
-use Rattle.std.proofs.Common.{◌≡◌, ◌≢◌, ℕ, List, ◌++◌, Option, Some, None, MatchOption, IfSome, IsSomeAnd, Bor, Result, Ok, Err, OnErr, sym, ◌∙◌, subst}
+use Rattle.std.proofs.Common.{◌≡◌, ◌≢◌, ℕ, Bool, true, false, not, IsTrue, Decides, List, ◌++◌, Option, Some, None, MatchOption, IfSome, IsSomeAnd, Bor, Result, Ok, Err, IfOk, IfErr, IsErrAnd, OnErr, refl, sym, ◌∙◌, ap, subst}
 use Rattle.std.proofs.lemmas.List.{append_cancel_left}
 
 module _ (text word : List ℕ) where
@@ -28,3 +28,40 @@ missed P (Some x) some is = absurd (cc)
 pub at_err : {T E P : Type 0} (r : Result T E) → P → OnErr r P
 at_err (Ok x) p = tt
 at_err (Err e) p = p
+
+-- what is said of content holds of the bytes that were told
+pub of_told : {A : Type 0} (P : A → Type 0) (o : Option A) (x : A) → IfSome o P → o ≡ Some x → P x
+of_told P None x told is = absurd (cc)
+of_told P (Some y) x told is = subst P (cc) told
+
+-- a test that decides P is true exactly where Q holds, which is the same
+pub tells : {P Q : Type 0} (b test : Bool) → b ≡ test → Decides test P → (P → Q) → (Q → P) → (IsTrue b → Q) × (Q → IsTrue b)
+tells true test is decides there back = (λ _. there (decides.0 (sym is)), λ _. refl)
+tells false test is decides there back = (λ never. absurd cc, λ q. let t : true ≡ false = sym (decides.1 (back q)) ∙ sym is in absurd cc)
+
+-- what a false answer would tell doesn't hold
+pub never_told : {P : Type 0} (b : Bool) → (IsTrue b → P) × (P → IsTrue b) → b ≡ false → ¬ P
+never_told true told is = absurd cc
+never_told false told is = λ p. let t : true ≡ false = sym (told.1 p) in absurd cc
+
+-- bytes that a test finds unequal, or not
+module _ {P : Type 0} (b test : Bool) (is : b ≡ not test) (decides : Decides test P) where
+  pub differs : b ≡ true → ¬ P
+  differs unequal = λ p. let t : true ≡ false = sym unequal ∙ is ∙ ap not (decides.1 p) in absurd cc
+
+  pub equals : b ≡ false → P
+  equals equal = decides.0 (not_false test (sym is ∙ equal))
+    where
+      not_false : (t : Bool) → not t ≡ false → t ≡ true
+      not_false true e = refl
+      not_false false e = absurd cc
+
+-- what follows at Ok from what holds there
+pub map_ok : {T E : Type 0} (P Q : T → Type 0) (r : Result T E) → ((x : T) → P x → Q x) → IfOk r P → IfOk r Q
+map_ok P Q (Ok x) f p = f x p
+map_ok P Q (Err e) f p = tt
+
+-- what holds of an error holds of the one that a result is
+pub at_this : {T E : Type 0} (P : E → Type 0) (r : Result T E) (e : E) → IsErrAnd r (λ x. x ≡ e) → P e → IfErr r P
+at_this P (Ok x) e is p = tt
+at_this P (Err x) e is p = subst P (sym is) p

@@ -4,8 +4,9 @@ use Rattle.std.specs.Option.{option_map, ForSome}
 use Rattle.causes.specs.Causes.{Rose}
 use Rattle.io_edge.specs.Content.{Content}
 use Rattle.shell.specs.Input.{WasRead, read_limit}
-use Rattle.shell.specs.Kv.{pairs_after_all, replies_to}
-use Rattle.shell.specs.Outcome.{IsLogOf, Runs}
+use Rattle.shell.specs.Log.{BeginsWith, lane_reads, Holding}
+use Rattle.shell.specs.Kv.{Pairs, pairs_after_all, replies_to}
+use Rattle.shell.specs.Outcome.{Runs}
 use Rattle.shell.specs.Script.{IsScript, statements_in}
 use Rattle.shell.specs.Shown.{Shows}
 use Rattle.shell.specs.Text.{shown_text}
@@ -54,7 +55,7 @@ pub record ScriptRan {D : Type 0} (words : List (List ℕ)) (before after : Opti
   pub read : WasRead before after
   pub script : Option (List Statement)
   pub is : ForSome before (λ content. IsScript (take read_limit content.left) script)
-  pub runs : Runs content faults [] script disk end shown now
+  pub runs : Runs content faults script disk end shown now
 
 -- one of the three
 abbrev pub Explains : List (List ℕ) → Option Content → ℕ → Option Content → ℕ → {D : Type 0} → (D → Option (List ℕ)) → (D → ℕ) → D → End → Option (List Reply) → D → Type 0
@@ -69,11 +70,13 @@ pub record Answers {D : Type 0} (words : List (List ℕ)) (before : Option Conte
   pub why : Explains words before fell after risen content faults disk end shown now
   pub shows : Shows start fell' shown end status taken risen'
 
--- Status 0: the words ask for a run, all of a script was read, the sink took the replies of its statements over the plain list of pairs, in order, and the log file holds the pairs that they leave.
-pub record AllDone {D : Type 0} (words : List (List ℕ)) (before after : Option Content) (start taken : Option (List ℕ)) (content : D → Option (List ℕ)) (now : D) : Type 0 where
+-- Status 0: the words ask for a run, all of a script was read, the sink took the replies of its statements over the pairs that the log file began with, in order, and the file reads as the pairs that they leave.
+pub record AllDone {D : Type 0} (words : List (List ℕ)) (before after : Option Content) (start taken : Option (List ℕ)) (content : D → Option (List ℕ)) (disk now : D) : Type 0 where
   pub asks : IsRun words
   pub read : WasRead before after
   pub script : Option (List Statement)
   pub is : ForSome before (λ content. IsScript (take read_limit content.left) script)
-  pub took : taken ≡ option_map (λ t. t ++ shown_text (option_map (replies_to []) script)) start
-  pub kept : ForSome (content now) (IsLogOf (pairs_after_all [] (statements_in script)))
+  pub pairs : Pairs
+  pub opened : ForSome (content disk) (BeginsWith pairs)
+  pub took : taken ≡ option_map (λ t. t ++ shown_text (option_map (replies_to pairs) script)) start
+  pub kept : ForSome (content now) (λ bytes. lane_reads bytes (Holding (pairs_after_all pairs (statements_in script))))

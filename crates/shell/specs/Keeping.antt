@@ -1,17 +1,22 @@
 -- What a session keeps of the pairs, in memory and in its log file.
-use Rattle.std.specs.Prelude.{◌≡◌, ℕ, ◌+◌, ◌*◌, ◌≤◌, ◌^◌, ℤ, List, length, map, Option}
+use Rattle.std.specs.Prelude.{◌≡◌, ℕ, ℤ, List, length, map, Option}
 use Rattle.std.specs.Ordering.{int_cmp}
-use Rattle.std.specs.BTreeMap.{get, btree_map_len}
+use Rattle.std.specs.BTreeMap.{BTreeMap, get, btree_map_len}
 use Rattle.lane_format.specs.Writer.{Holds, lane_of, stage_of}
 use Rattle.lane_format.specs.declared.writer.Stage.TheVariants.{Open}
-use Rattle.shell.specs.Kv.{Pairs, pair_body, used_bytes, value_of}
+use Rattle.shell.specs.Kv.{Pairs, pair_body, value_of}
+use Rattle.shell.specs.Log.{MayBeLogged, gate_place}
 use Rattle.shell.specs.declared.session.Session.{Session}
+
+-- the map answers as the pairs do
+pub record IsMapOf (table : BTreeMap ℤ ℤ) (pairs : Pairs) : Type 0 where
+  pub same : (key : ℤ) → get int_cmp table key ≡ value_of pairs key
+  pub count : btree_map_len table ≡ length pairs
 
 -- The session has these pairs: its map answers as they do, and its log file is the open lane of generation 2 with a batch for each.
 pub record Keeps {D : Type 0} (content : D → Option (List ℕ)) (session : Session D) (pairs : Pairs) : Type 0 where
-  pub same : (key : ℤ) → get int_cmp session.pairs key ≡ value_of pairs key
-  pub count : btree_map_len session.pairs ≡ length pairs
-  pub few : used_bytes pairs ≤ 2 ^ 27
+  pub table : IsMapOf session.pairs pairs
+  pub logged : MayBeLogged pairs
   pub lane : lane_of session.writer ≡ 0
-  pub stage : stage_of session.writer ≡ Open 2 (11 + 21 * length pairs)
+  pub stage : stage_of session.writer ≡ Open 2 (gate_place (length pairs))
   pub file : Holds content session.writer 2 (map pair_body pairs)

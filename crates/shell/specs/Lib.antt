@@ -6,7 +6,8 @@ pub mod Text
 pub mod Session
 pub mod Keeping
 pub mod Outcome
-pub mod Open
+pub mod Log
 pub mod Shown
 pub mod Call
 pub mod Files
+pub mod Opening

@@ -1,7 +1,7 @@
 ghost use Rattle.std.specs.Prelude.{◌≡◌, ◌↔◌, ◌≤◌, ℕ, List, length, take, Option, IfOk, IfErr, IsTrue, None};
 ghost use Rattle.std.specs.Option.{ForSome};
 ghost use Rattle.causes.specs.Causes.{Rose};
-ghost use Rattle.shell.specs.Open.{IsOpen};
+ghost use Rattle.shell.specs.Log.{Damaged, lane_reads};
 ghost use Rattle.shell.specs.declared.statement.Statement.{Statement as Line};
 ghost use Rattle.shell.specs.Call.{AllDone, Answers, Explains, IsRun, NamesFolder, NoScript};
 ghost use Rattle.shell.specs.Files.{KeepsOthers, log_file};
@@ -38,7 +38,7 @@ pub struct Ended<D> {
 /// | 5 | `fault SOURCE` | only where the source failed in this call |
 /// | 6 | none | only where the sink failed in this call, and all was done and kept |
 /// | 7 | `fault SCRIPT` | where the input is no script, and nowhere else |
-/// | 8 | `fault DAMAGED` | where the log file is open at entry, and nowhere else |
+/// | 8 | `fault DAMAGED` | where the log file is open at entry but isn't the log of pairs, and nowhere else |
 ///
 /// The store has one lane. Its log file is the even one; the others are handed back as they were.
 pub fn ptime<S: Source, K: Sink, D: Disk>(
@@ -51,13 +51,13 @@ pub fn ptime<S: Source, K: Sink, D: Disk>(
     requires lane { length store.lanes.items ≡ 1 }
     ensures answers { Answers words.now (S.content source.old) (S.faults source.old) (S.content source.new) (S.faults source.new) (K.taken sink.old) (K.faults sink.old) (K.taken sink.new) (K.faults sink.new)
         D.content D.faults (log_file store) (log_file result.store) result.status }
-    ensures done { result.status ≡ 0 → AllDone words.now (S.content source.old) (S.content source.new) (K.taken sink.old) (K.taken sink.new) D.content (log_file result.store) }
+    ensures done { result.status ≡ 0 → AllDone words.now (S.content source.old) (S.content source.new) (K.taken sink.old) (K.taken sink.new) D.content (log_file store) (log_file result.store) }
     ensures usage { (result.status ≡ 2) ↔ ¬ (IsRun words.now) }
     ensures disk { result.status ≡ 4 → Rose (D.faults (log_file store)) (D.faults (log_file result.store)) }
     ensures source { result.status ≡ 5 → Rose (S.faults source.old) (S.faults source.new) }
     ensures sink { result.status ≡ 6 → Rose (K.faults sink.old) (K.faults sink.new) }
     ensures script { result.status ≡ 7 → ForSome (S.content source.old) (λ content. (script : Option (List Line)) → ¬ (IsScript (take read_limit content.left) script)) }
-    ensures damaged { result.status ≡ 8 → ForSome (D.content (log_file store)) IsOpen × (D.content (log_file result.store) ≡ D.content (log_file store)) }
+    ensures damaged { result.status ≡ 8 → ForSome (D.content (log_file store)) (λ bytes. lane_reads bytes Damaged) × (D.content (log_file result.store) ≡ D.content (log_file store)) }
     ensures others { KeepsOthers store result.store }
 {
     let Store {

@@ -4,17 +4,22 @@
 mod call;
 mod end;
 mod input;
+mod laws;
+mod log;
 mod outcome;
 mod printer;
+mod reading;
 mod reply;
 mod run;
 mod script;
 mod session;
 mod statement;
+mod stop;
 #[cfg(test)]
 mod tests;
 
 pub use call::{Ended, is_run, ptime};
 pub use end::End;
+pub use laws::{one_reading, reads_what_was_forced};
 pub use reply::Reply;
 pub use statement::Statement;

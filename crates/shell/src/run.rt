@@ -1,7 +1,7 @@
 // Runs a script over the log file.
 ghost use Rattle.std.specs.Prelude.{◌≡◌, ◌+◌, ◌-◌, ◌<◌, ◌≤◌, [], ◌++◌, length, take, replicate, List, Some, IfErr, OnOk, OnErr, vec_len, vec_capacity};
 ghost use Rattle.std.specs.Option.{ForSome};
-ghost use Rattle.shell.specs.Open.{IsOpen};
+ghost use Rattle.shell.specs.Log.{BeginsWith};
 ghost use Rattle.shell.specs.Outcome.{Runs};
 ghost use Rattle.shell.specs.Session.{script_of};
 ghost use Rattle.shell.specs.Shown.{shown_of};
@@ -13,7 +13,8 @@ ghost use Rattle.shell.specs.Keeping.{Keeps};
 
 use crate::outcome::Outcome;
 use crate::script::Script;
-use crate::session::{Session, Stop};
+use crate::session::Session;
+use crate::stop::Stop;
 use crate::{End, Reply, Statement};
 use disk_core::Disk;
 use std::alloc::Global;
@@ -31,6 +32,8 @@ fn answer_all<D: Disk>(
         → (replies.new.items ≡ replies_to pairs statements.now) × Keeps D.content session.new (pairs_after_all pairs statements.now)) }
     ensures err { OnErr result ((vec_len replies.new < length statements.now) × ((pairs : Pairs) → Keeps D.content session.old pairs
         → replies.new.items ≡ take (vec_len replies.new) (replies_to pairs statements.now))) }
+    ensures memory { IfErr result (λ stop. stop ≡ Stop.OutOfMemory → (pairs : Pairs) → Keeps D.content session.old pairs
+        → Keeps D.content session.new (pairs_after_all pairs (take (vec_len replies.new) statements.now))) }
     ensures disk { IfErr result (λ stop. (file : FileName) → stop ≡ Stop.Disk file
         → (file ≡ even_file 0) × Rose (D.faults (disk_of session.old.writer)) (D.faults (disk_of session.new.writer))) }
     ensures room { length statements.now ≤ vec_capacity replies.new }
@@ -62,27 +65,35 @@ fn run_session<D: Disk>(
     requires keeps { (pairs : Pairs) × Keeps D.content session pairs }
     requires none { replies.items ≡ [] }
     requires room { length statements.now ≤ vec_capacity replies }
-    ensures runs { (pairs : Pairs) (disk : D) → Keeps D.content session pairs → ForSome (D.content disk) (λ bytes. ¬ (IsOpen bytes)) → D.faults disk ≤ D.faults (disk_of session.writer)
-        → Runs D.content D.faults pairs (Some statements.now) disk result.1.end (shown_of result.1) result.0 }
+    ensures runs { (pairs : Pairs) (disk : D) → Keeps D.content session pairs → ForSome (D.content disk) (BeginsWith pairs) → D.faults disk ≤ D.faults (disk_of session.writer)
+        → Runs D.content D.faults (Some statements.now) disk result.1.end (shown_of result.1) result.0 }
 {
-    let end = match answer_all(&mut session, statements, &mut replies) {
-        Ok(()) => End::Done,
+    match answer_all(&mut session, statements, &mut replies) {
+        Ok(()) => end_session(session, replies, End::Done),
         Err(Stop::OutOfMemory) => {
             pad(&mut replies, statements.len(), Reply::StoppedMemory);
-            End::OutOfMemory
+            end_session(session, replies, End::OutOfMemory)
         }
         Err(Stop::Disk(file)) => {
             pad(&mut replies, statements.len(), Reply::Stopped);
-            End::Disk(file)
+            end_session(session, replies, End::Disk(file))
         }
-    };
+    }
+}
+
+/// Gives the disk of a session back, with how the run ended.
+fn end_session<D: Disk>(session: Session<D>, replies: Vec<Reply>, end: End) -> (D, Outcome)
+    ensures disk { result.0 ≡ disk_of session.writer }
+    ensures shown { shown_of result.1 ≡ Some replies.items }
+    ensures end { result.1.end ≡ end }
+{
     let shown = Some(replies);
     (session.into_disk(), Outcome { shown, end })
 }
 
 /// Runs a script over the log file. The memory of its replies is found before the file is touched.
 pub(crate) fn run_script<D: Disk>(alloc: Global, script: Script, disk: D) -> (D, Outcome)
-    ensures { Runs D.content D.faults [] (script_of script) disk result.1.end (shown_of result.1) result.0 }
+    ensures { Runs D.content D.faults (script_of script) disk result.1.end (shown_of result.1) result.0 }
 {
     let statements = match &script.session {
         Some(statements) => statements.len(),

@@ -1,53 +1,16 @@
-ghost use Rattle.std.specs.Prelude.{◌≡◌, ◌↔◌, ◌+◌, ◌≤◌, [], ℤ, length, IsTrue, IfOk, OnOk, OnErr};
-ghost use Rattle.std.specs.Option.{ForSome};
-ghost use Rattle.causes.specs.Causes.{HasCause, Rose};
-ghost use Rattle.lane_format.specs.Lane.{body_of};
+ghost use Rattle.std.specs.Prelude.{◌≡◌, ◌≤◌, [], OnOk, OnErr};
+ghost use Rattle.causes.specs.Causes.{Rose};
 ghost use Rattle.lane_format.specs.Writer.{Holds, disk_of, lane_of, stage_of};
 ghost use Rattle.lane_format.specs.declared.writer.Stage.TheVariants.{Adopted, Open};
-ghost use Rattle.shell.specs.Open.{IsOpen};
-ghost use Rattle.shell.specs.Kv.{pair_body};
 
+use crate::log::{GENERATION, LANE, LOG_FILE, LOG_LIMIT, gate_place, pair_frame};
+use crate::reading::{Found, read_log};
+use crate::stop::Stop;
 use crate::{End, Reply, Statement};
-use disk_core::{Disk, Failed, FileName};
+use disk_core::Disk;
 use lane_format::{LaneFault, LaneWriter};
-use std::alloc::{AllocFailed, Global};
+use std::alloc::Global;
 use std::collections::BTreeMap;
-
-/// The lane that a session logs to, and the generation of its file.
-const LANE: u16 = 0;
-
-const GENERATION: u64 = 2;
-
-const LOG_FILE: FileName = FileName::Lane {
-    lane: LANE,
-    odd: false,
-};
-
-/// An insert is refused where the log file uses more bytes than these.
-const LOG_LIMIT: u64 = 66_846_592;
-
-/// The used bytes of a log file with no pair, and how many more each pair uses.
-const EMPTY_LOG: u64 = 12;
-
-const PAIR_BATCH: u64 = 21;
-
-/// Why a session stops.
-#[derive(Clone, Copy, Debug, PartialEq, Eq)]
-pub(crate) enum Stop {
-    OutOfMemory,
-    Disk(FileName),
-}
-
-impl<T: Drop> From<AllocFailed<T>> for Stop {
-    ghost use Rattle.std.specs.Prelude.{◌≡◌};
-    ghost use Rattle.shell.specs.declared.session.Stop.TheVariants.{OutOfMemory};
-
-    ghost from_gives = { λ _ stop. stop ≡ OutOfMemory };
-
-    fn from(_: AllocFailed<T>) -> Stop {
-        Stop::OutOfMemory
-    }
-}
 
 /// A session over the table kv: its pairs in memory, and the log file that has them.
 pub(crate) struct Session<D> {
@@ -61,22 +24,24 @@ impl<D: Disk> Session<D> {
     ghost use Rattle.causes.specs.Causes.{Rose};
     ghost use Rattle.disk_core.specs.declared.store.FileName.{FileName};
     ghost use Rattle.lane_format.specs.Writer.{disk_of, even_file};
-    ghost use Rattle.shell.specs.Keeping.{Keeps};
-    ghost use Rattle.shell.specs.Open.{IsOpen};
-    ghost use Rattle.shell.specs.Outcome.{CannotOpen};
+    ghost use Rattle.shell.specs.Keeping.{IsMapOf, Keeps};
     ghost use Rattle.shell.specs.Kv.{Pairs, found, pairs_after, reply_to, value_of};
+    ghost use Rattle.shell.specs.Log.{BeginsWith, MayBeLogged, Holding, lane_reads};
+    ghost use Rattle.shell.specs.Outcome.{CannotOpen};
 
-    /// Begins over a log file that isn't open: it becomes an open lane with no pairs. A file that is open is
-    /// refused as damaged and stays as it was. An `Err` gives the disk back.
+    /// Begins over a log file. One that isn't open becomes an open lane with no pairs; one that is the log of
+    /// pairs is gone on with. One that is damaged stays as it was. An `Err` gives the disk back.
     pub(crate) fn open(alloc: Global, mut disk: D) -> Result<Session<D>, (End, D)>
-        ensures begun { IfOk result (λ session. Keeps D.content session []
-            × ForSome (D.content disk) (λ bytes. ¬ (IsOpen bytes)) × (D.faults disk ≤ D.faults (disk_of session.writer))) }
+        ensures begun { IfOk result (λ session. (pairs : Pairs) × Keeps D.content session pairs
+            × ForSome (D.content disk) (BeginsWith pairs) × (D.faults disk ≤ D.faults (disk_of session.writer))) }
         ensures refused { IfErr result (λ e. CannotOpen D.content D.faults disk e.0 e.1 × (D.faults disk ≤ D.faults e.1)) }
     {
-        match has_open_gate(&mut disk) {
-            Ok(false) => Session::begin(alloc, disk),
-            Ok(true) => Err((End::Damaged, disk)),
-            Err(Failed) => Err((End::Disk(LOG_FILE), disk)),
+        match read_log(alloc, &mut disk) {
+            Ok(Found::NotOpen) => Session::begin(alloc, disk),
+            Ok(Found::Holding(pairs)) => Ok(Session::go_on(disk, pairs)),
+            Ok(Found::Damaged) => Err((End::Damaged, disk)),
+            Err(Stop::OutOfMemory) => Err((End::OutOfMemory, disk)),
+            Err(Stop::Disk(file)) => Err((End::Disk(file), disk)),
         }
     }
 
@@ -94,6 +59,15 @@ impl<D: Disk> Session<D> {
         }
     }
 
+    fn go_on(disk: D, pairs: BTreeMap<i64, i64>) -> Session<D>
+        requires { (list : Pairs) × IsMapOf pairs list × MayBeLogged list × ForSome (D.content disk) (λ bytes. lane_reads bytes (Holding list)) }
+        ensures keeps { (list : Pairs) → IsMapOf pairs list → MayBeLogged list → ForSome (D.content disk) (λ bytes. lane_reads bytes (Holding list)) → Keeps D.content result list }
+        ensures disk { disk_of result.writer ≡ disk }
+    {
+        let writer = LaneWriter::adopt_open(disk, LANE, GENERATION, gate_place(pairs.len()));
+        Session { writer, pairs }
+    }
+
     /// Gives the disk back.
     pub(crate) fn into_disk(self) -> D
         ensures { result ≡ disk_of self.writer }
@@ -107,6 +81,7 @@ impl<D: Disk> Session<D> {
         requires { (pairs : Pairs) × Keeps D.content self.old pairs }
         ensures reply { IfOk result (λ reply. (pairs : Pairs) → Keeps D.content self.old pairs
             → (reply ≡ reply_to pairs statement.now) × Keeps D.content self.new (pairs_after pairs statement.now)) }
+        ensures memory { IfErr result (λ stop. stop ≡ Stop.OutOfMemory → (pairs : Pairs) → Keeps D.content self.old pairs → Keeps D.content self.new pairs) }
         ensures disk { IfErr result (λ stop. (file : FileName) → stop ≡ Stop.Disk file
             → (file ≡ even_file 0) × Rose (D.faults (disk_of self.old.writer)) (D.faults (disk_of self.new.writer))) }
         ensures later { D.faults (disk_of self.old.writer) ≤ D.faults (disk_of self.new.writer) }
@@ -121,6 +96,7 @@ impl<D: Disk> Session<D> {
         requires { (pairs : Pairs) × Keeps D.content self.old pairs }
         ensures reply { IfOk result (λ reply. (pairs : Pairs) → Keeps D.content self.old pairs
             → (reply ≡ reply_to pairs (Statement.Insert key value)) × Keeps D.content self.new (pairs_after pairs (Statement.Insert key value))) }
+        ensures memory { IfErr result (λ stop. stop ≡ Stop.OutOfMemory → (pairs : Pairs) → Keeps D.content self.old pairs → Keeps D.content self.new pairs) }
         ensures disk { IfErr result (λ stop. (file : FileName) → stop ≡ Stop.Disk file
             → (file ≡ even_file 0) × Rose (D.faults (disk_of self.old.writer)) (D.faults (disk_of self.new.writer))) }
         ensures later { D.faults (disk_of self.old.writer) ≤ D.faults (disk_of self.new.writer) }
@@ -128,7 +104,7 @@ impl<D: Disk> Session<D> {
         if self.pairs.contains_key(&key) {
             return Ok(Reply::Duplicate { key });
         }
-        let bytes = EMPTY_LOG + PAIR_BATCH * self.pairs.len() as u64;
+        let bytes = gate_place(self.pairs.len()) + 1;
         if bytes > LOG_LIMIT {
             return Ok(Reply::LogFull { bytes });
         }
@@ -151,20 +127,6 @@ impl<D: Disk> Session<D> {
     }
 }
 
-/// Whether the file's gate is open.
-fn has_open_gate<D: Disk>(disk: &mut D) -> Result<bool, Failed>
-    ensures open { IfOk result (λ is_open. ForSome (D.content disk.old) (λ bytes. IsTrue is_open ↔ IsOpen bytes)) }
-    ensures same { D.content disk.new ≡ D.content disk.old }
-    ensures cause { HasCause (D.faults disk.old) (D.faults disk.new) result }
-{
-    if disk.size()? == 0 {
-        return Ok(false);
-    }
-    let mut gate = [0];
-    disk.read_at(0, &mut gate)?;
-    Ok(gate[0] == 1)
-}
-
 /// Closes a file of which nothing is known and makes it an open lane with no batch.
 fn make_empty<D: Disk>(writer: &mut LaneWriter<D>) -> Result<(), LaneFault>
     requires fresh { stage_of writer.old ≡ Adopted }
@@ -175,16 +137,4 @@ fn make_empty<D: Disk>(writer: &mut LaneWriter<D>) -> Result<(), LaneFault>
 {
     writer.close(GENERATION)?;
     writer.reset(GENERATION)
-}
-
-/// A frame whose body is a pair.
-fn pair_frame(key: i64, value: i64) -> [u8; 21]
-    ensures body { body_of result ≡ pair_body (key, value) }
-    ensures length { length result ≡ 21 }
-{
-    let [k0, k1, k2, k3, k4, k5, k6, k7] = key.to_le_bytes();
-    let [v0, v1, v2, v3, v4, v5, v6, v7] = value.to_le_bytes();
-    [
-        0, 0, 0, 0, k0, k1, k2, k3, k4, k5, k6, k7, v0, v1, v2, v3, v4, v5, v6, v7, 0,
-    ]
 }

@@ -1,6 +1,6 @@
 use Rattle.std.proofs.Common.{List, ℕ, sym, subst}
 use Rattle.shell.specs.Input.{SoFar}
-use Rattle.shell.proofs.Reading.{one_more_piece}
+use Rattle.shell.proofs.InputSoFar.{one_more_piece}
 use Rattle.shell.proofs.input.pull_more.Goals as goal
 
 pub returns-clause-so_far : goal.returns-clause-so_far

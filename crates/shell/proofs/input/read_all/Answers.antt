@@ -1,5 +1,5 @@
 use Rattle.std.proofs.Common.{length, ap, arith}
-use Rattle.shell.proofs.Reading.{read_to_end, read_enough, at_false}
+use Rattle.shell.proofs.InputSoFar.{read_to_end, read_enough, at_false}
 use Rattle.shell.proofs.input.read_all.Goals as goal
 
 pub returns-then-not-branch-clause-read : goal.returns-then-not-branch-clause-read

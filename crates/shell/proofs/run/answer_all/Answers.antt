@@ -1,8 +1,10 @@
-use Rattle.std.proofs.Common.{◌+◌, List, pos, take, get_or, sym, ◌∙◌, ap, subst, arith}
+use Rattle.std.proofs.Common.{◌≡◌, ℕ, ◌+◌, vec_len, List, pos, take, get_or, sym, ◌∙◌, ap, subst, arith}
 use Rattle.std.proofs.lemmas.Grind.{take_at_read}
-use Rattle.shell.specs.Kv.{replies_to}
+use Rattle.shell.specs.Kv.{Pairs, pairs_after_all, replies_to}
+use Rattle.shell.specs.Keeping.{Keeps}
 use Rattle.shell.proofs.Answering.{Answered, one_more_answered, replies_to-take}
-use Rattle.shell.proofs.Words.{at_err}
+use Rattle.shell.proofs.Words.{at_err, at_this}
+use Rattle.shell.specs.declared.stop.Stop.TheVariants.{OutOfMemory}
 use Rattle.shell.specs.declared.reply.Reply.{Reply}
 use Rattle.shell.specs.declared.statement.Statement.{Statement}
 use Rattle.shell.specs.declared.statement.Statement.TheVariants.{Insert}
@@ -16,6 +18,18 @@ returns-in_err-reply-clause-err g c =
       omega arith,
       λ pairs keeps. (so_far.0.each pairs keeps).0 ∙ replies_to-take pairs c.loop-statement.statement-index statements ∙ ap (λ n. take n (replies_to pairs statements)) (sym so_far.1),
     )
+
+pub returns-in_err-reply-clause-memory : goal.returns-in_err-reply-clause-memory
+returns-in_err-reply-clause-memory g c =
+    let so_far = c.loop-statement.invariant in
+    let statements = c.args.statements.now in
+    let old = c.args.session.now in
+    let new = c.answer.new.self in
+    let content = g.D.Disk.content in
+    let kept : c.in_err-reply.field-0.0 ≡ OutOfMemory → (pairs : Pairs) → Keeps content old pairs → Keeps content new (pairs_after_all pairs (take (vec_len c.loop-statement.replies) statements)) =
+    λ short pairs keeps. subst (λ (n : ℕ). Keeps content new (pairs_after_all pairs (take n statements))) (sym so_far.1) (c.in_err-reply.ensures.memory short (pairs_after_all pairs (take c.loop-statement.statement-index statements)) (so_far.0.each pairs keeps).1) in
+    at_this (λ stop. stop ≡ OutOfMemory → (pairs : Pairs) → Keeps content old pairs → Keeps content new (pairs_after_all pairs (take (vec_len c.loop-statement.replies) statements)))
+    c.from_residual.result c.in_err-reply.field-0.0 c.from_residual.ensures.1 kept
 
 pub loop-statement-preserved : goal.loop-statement-preserved
 loop-statement-preserved g c =

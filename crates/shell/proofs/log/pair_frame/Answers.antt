@@ -1,7 +1,7 @@
 use Rattle.std.proofs.Common.{w64, refl}
 use Rattle.std.proofs.lemmas.Int.{to_z-of_z}
 use Rattle.shell.specs.Kv.{pair_body}
-use Rattle.shell.proofs.session.pair_frame.Goals as goal
+use Rattle.shell.proofs.log.pair_frame.Goals as goal
 
 pub returns-clause-body : goal.returns-clause-body
 unfolding pair_body
