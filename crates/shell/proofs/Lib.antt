@@ -9,6 +9,8 @@ pub mod Lines
 pub mod Batches
 pub mod Pairs
 pub mod Pieces
+pub mod AsWas
+pub mod Securing
 pub mod Ending
 pub mod Answering
 pub mod Statuses
