@@ -11,6 +11,7 @@ pub mod Pairs
 pub mod Pieces
 pub mod AsWas
 pub mod Securing
+pub mod Lasting
 pub mod Ending
 pub mod Answering
 pub mod Statuses

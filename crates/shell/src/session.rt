@@ -106,7 +106,8 @@ impl<D: Disk> Session<D> {
             → LeavesOnly D.moment D.left_since (disk_of self.old.writer) (disk_of self.new.writer) (WithOrWithout pairs statement.now) }
         ensures crash { (pairs : Pairs) → Secures D.content D.may_leave self.old pairs → LeavesNow D.content D.may_leave (disk_of self.new.writer) (WithOrWithout pairs statement.now) }
         ensures durable { OnOk result ((pairs : Pairs) → Secures D.content D.may_leave self.old pairs → Secures D.content D.may_leave self.new (pairs_after pairs statement.now)) }
-        ensures short { IfErr result (λ stop. stop ≡ Stop.OutOfMemory → (pairs : Pairs) → Secures D.content D.may_leave self.old pairs → Secures D.content D.may_leave self.new pairs) }
+        ensures short { IfErr result (λ stop. stop ≡ Stop.OutOfMemory → (pairs : Pairs) → Secures D.content D.may_leave self.old pairs
+            → Secures D.content D.may_leave self.new pairs × LeavesOnly D.moment D.left_since (disk_of self.old.writer) (disk_of self.new.writer) (IsLogOf pairs)) }
     {
         match *statement {
             Statement::Insert { key, value } => self.insert(key, value),
@@ -126,7 +127,8 @@ impl<D: Disk> Session<D> {
             → LeavesOnly D.moment D.left_since (disk_of self.old.writer) (disk_of self.new.writer) (WithOrWithout pairs (Statement.Insert key value)) }
         ensures crash { (pairs : Pairs) → Secures D.content D.may_leave self.old pairs → LeavesNow D.content D.may_leave (disk_of self.new.writer) (WithOrWithout pairs (Statement.Insert key value)) }
         ensures durable { OnOk result ((pairs : Pairs) → Secures D.content D.may_leave self.old pairs → Secures D.content D.may_leave self.new (pairs_after pairs (Statement.Insert key value))) }
-        ensures short { IfErr result (λ stop. stop ≡ Stop.OutOfMemory → (pairs : Pairs) → Secures D.content D.may_leave self.old pairs → Secures D.content D.may_leave self.new pairs) }
+        ensures short { IfErr result (λ stop. stop ≡ Stop.OutOfMemory → (pairs : Pairs) → Secures D.content D.may_leave self.old pairs
+            → Secures D.content D.may_leave self.new pairs × LeavesOnly D.moment D.left_since (disk_of self.old.writer) (disk_of self.new.writer) (IsLogOf pairs)) }
     {
         if self.pairs.contains_key(&key) {
             return Ok(Reply::Duplicate { key });
