@@ -141,3 +141,12 @@ module _ {D : Type 0} (content : D → Option (List ℕ)) (may_leave : D → Lis
     moments = weaker moment left_since disk (disk_of session.writer) (BeginsWith pairs) (HasFirst pairs [] 0 0) (λ image begins. (0, omega arith, omega arith, begins)) opened;
     now = λ image left. has_first pairs [] 0 0 0 image (omega arith) (omega arith) (secures.crash.each image left);
   })
+
+  -- said with other names of the same
+  pub survives_as : (bytes : List ℕ) (disk : D) (script script' : Option (List Statement)) (e e' : End) (shown shown' : Option (List Reply)) (now now' : D) → script' ≡ script → e' ≡ e → shown' ≡ shown → now' ≡ now
+      → Survives may_leave moment left_since bytes script disk e shown now → Survives may_leave moment left_since bytes script' disk e' shown' now'
+  survives_as bytes disk script script' e e' shown shown' now now' script_is end_is shown_is now_is survives =
+      subst (λ (s : Option (List Statement)). Survives may_leave moment left_since bytes s disk e' shown' now') (sym script_is)
+      (subst (λ (x : End). Survives may_leave moment left_since bytes script disk x shown' now') (sym end_is)
+      (subst (λ (o : Option (List Reply)). Survives may_leave moment left_since bytes script disk e o now') (sym shown_is)
+      (subst (λ (d : D). Survives may_leave moment left_since bytes script disk e shown d) (sym now_is) survives)))
