@@ -19,20 +19,6 @@ first_byte (b ∷ l) = refl
 pub no_shorter : (at : ℕ) (bytes old : List ℕ) → length old ≤ length (written at bytes old)
 no_shorter at bytes old = omega (arith, length-append (take at old ++ bytes) (drop (at + length bytes) old), length-append (take at old) bytes, length-take at old, length-drop (at + length bytes) old)
 
--- a crash in the closing write leaves the file as it was, or one that isn't open
-shut_or_old : (old image : List ℕ) → Tears 0 (0 ∷ []) old image → (image ≡ old) ⊎ IsNotOpen image
-shut_or_old [] image tears = inr (λ is. ⊎_elim
-    (λ zero. omega (arith, zero, is))
-    (λ same. let zero : slice_index image 0 ≡ 0 = same in omega (arith, zero, is))
-    (tears.alone 0 refl))
-shut_or_old (b ∷ l) image tears = ⊎_elim
-    (λ same. inl same)
-    (λ done. inr (λ is. let zero : slice_index image 0 ≡ 0 = ap (λ (x : List ℕ). slice_index x 0) done in omega (arith, zero, is)))
-    (lone_write 0 0 (b ∷ l) image (omega arith) tears)
-
-pub after_closing : (may_leave : List ℕ → Type 0) (image : List ℕ) → TornFrom may_leave 0 (0 ∷ []) image → may_leave image ⊎ IsNotOpen image
-after_closing may_leave image torn = ⊎_elim (λ same. inl (subst may_leave (sym same) torn.1)) (λ shut. inr shut) (shut_or_old torn.0 image torn.2)
-
 -- a crash in a write behind the gate leaves a file that isn't open so
 pub after_header : (may_leave : List ℕ → Type 0) (header : List ℕ) → ((image : List ℕ) → may_leave image → IsNotOpen image) → (image : List ℕ) → TornFrom may_leave 1 header image → IsNotOpen image
 after_header may_leave header shut image torn = λ is. shut torn.0 torn.1 (sym (first_byte torn.0) ∙ ap (λ (l : List ℕ). slice_index l 0) (sym torn.2.torn.before) ∙ first_byte image ∙ is)

@@ -1,8 +1,8 @@
 -- From what a disk tells, and what was brought to it, to what every crash leaves.
-use Rattle.std.proofs.Common.{◌≡◌, ℕ, ◌≤◌, List, Option, Some, None, IsSome, Result, Ok, Err, OnOk, true≢false, refl, sym, ◌∙◌, ap, subst}
+use Rattle.std.proofs.Common.{◌≡◌, ℕ, List, Option, Some, None, IsSome, Result, Ok, Err, OnOk, true≢false, refl, sym, ◌∙◌, ap, subst}
 use Rattle.std.specs.Option.{option_map, ForSome}
 use Rattle.disk_core.specs.Crash.{Elapses, Follows, LeavesOnly, NothingPending, Only, Tears}
-use Rattle.disk_core.specs.Device.{written, Writes}
+use Rattle.disk_core.specs.Device.{written}
 use Rattle.disk_core.specs.HistoryLaws.{nothing_torn}
 use Rattle.disk_core.proofs.Moments.{started, goes_on}
 use Rattle.lane_format.specs.Crash.{LeavesNow, TornFrom}
@@ -11,13 +11,6 @@ use Rattle.lane_format.specs.Crash.{LeavesNow, TornFrom}
 pub some_of : {A : Type 0} (o : Option A) → IsSome o → (x : A) × (o ≡ Some x)
 some_of None told = absurd (true≢false (sym told))
 some_of (Some x) told = (x, refl)
-
--- a write leaves a disk that tells its bytes one that does, also where it fails
-pub still_told : {T E : Type 0} (at : ℕ) (bytes : List ℕ) (before after : Option (List ℕ)) (result : Result T E) → Writes before at bytes result after → IsSome before → IsSome after
-still_told at bytes None after result writes told = absurd (true≢false (sym told))
-still_told at bytes (Some old) (Some new) result writes told = refl
-still_told at bytes (Some old) None (Ok done) writes told = absurd (let none : None ≡ Some (written at bytes old) = writes in cc)
-still_told at bytes (Some old) None (Err failed) writes told = absurd writes
 
 -- what two clauses say at Ok
 pub both_ok : {T E P Q R : Type 0} (r : Result T E) → OnOk r P → OnOk r Q → (P → Q → R) → OnOk r R
@@ -28,30 +21,17 @@ both_ok (Err e) p q follows = tt
 pub only_written : (at : ℕ) (bytes file : List ℕ) (before after : Option (List ℕ)) (may_leave : List ℕ → Type 0) → before ≡ Some file → after ≡ option_map (written at bytes) before → NothingPending after may_leave → Only (written at bytes file) may_leave
 only_written at bytes file before after may_leave told is pending = pending (written at bytes file) (is ∙ ap (option_map (written at bytes)) told)
 
-module _ {D : Type 0} (content : D → Option (List ℕ)) (may_leave : D → List ℕ → Type 0) where
-  -- where nothing is pending, what holds of the bytes holds of what a crash leaves
-  pub now_as_told : (disk : D) (P : List ℕ → Type 0) → IsSome (content disk) → NothingPending (content disk) (may_leave disk) → ForSome (content disk) P → LeavesNow content may_leave disk P
-  now_as_told disk P told pending holds = record {
-    told = told;
-    each = λ image now. let bytes = some_of (content disk) told in subst P (sym (pending bytes.0 bytes.1 image now)) (holds bytes.0 bytes.1);
-  }
+-- where nothing is pending, what holds of the bytes holds of what a crash leaves
+pub now_as_told : {D : Type 0} (content : D → Option (List ℕ)) (may_leave : D → List ℕ → Type 0) (disk : D) (P : List ℕ → Type 0) → IsSome (content disk) → NothingPending (content disk) (may_leave disk) → ForSome (content disk) P → LeavesNow content may_leave disk P
+now_as_told content may_leave disk P told pending holds = record {
+  told = told;
+  each = λ image now. let bytes = some_of (content disk) told in subst P (sym (pending bytes.0 bytes.1 image now)) (holds bytes.0 bytes.1);
+}
 
-  -- what a crash at any moment of a call leaves, a crash after it leaves
-  pub now_as_ever : (moment : D → ℕ) (left_since : D → ℕ → List ℕ → Type 0) (counts_now : (disk : D) (t : ℕ) (image : List ℕ) → t ≤ moment disk → may_leave disk image → left_since disk t image)
-      → (old new : D) (P : List ℕ → Type 0) → IsSome (content new) → LeavesOnly moment left_since old new P → LeavesNow content may_leave new P
-  now_as_ever moment left_since counts_now old new P told run = record {
-    told = told;
-    each = λ image now. run.each image (counts_now new (moment old) image run.later now);
-  }
-
-  module _ (moment : D → ℕ) (left_since : D → ℕ → List ℕ → Type 0) (only_now : (disk : D) (image : List ℕ) → left_since disk (moment disk) image → may_leave disk image) where
-    -- at each moment of a write a crash leaves what it makes of an earlier image
-    pub one_write : (old new : D) (at : ℕ) (bytes : List ℕ) → Elapses (moment old) (moment new) (left_since old) (left_since new) (may_leave new) → Follows (Tears at bytes) (may_leave old) (may_leave new)
-        → LeavesOnly moment left_since old new (TornFrom (may_leave old) at bytes)
-    one_write old new at bytes time crash =
-        let before = started moment left_since old (TornFrom (may_leave old) at bytes) (λ image left. (image, only_now old image left, nothing_torn at bytes image)) in
-        goes_on moment left_since old old new (TornFrom (may_leave old) at bytes) (may_leave new) before time crash
-
-    -- before the first call a crash leaves what it may leave
-    pub no_call : (disk : D) (P : List ℕ → Type 0) → ((image : List ℕ) → may_leave disk image → P image) → LeavesOnly moment left_since disk disk P
-    no_call disk P now = started moment left_since disk P (λ image left. now image (only_now disk image left))
+module _ {D : Type 0} (may_leave : D → List ℕ → Type 0) (moment : D → ℕ) (left_since : D → ℕ → List ℕ → Type 0) (only_now : (disk : D) (image : List ℕ) → left_since disk (moment disk) image → may_leave disk image) where
+  -- at each moment of a write a crash leaves what it makes of an earlier image
+  pub one_write : (old new : D) (at : ℕ) (bytes : List ℕ) → Elapses (moment old) (moment new) (left_since old) (left_since new) (may_leave new) → Follows (Tears at bytes) (may_leave old) (may_leave new)
+      → LeavesOnly moment left_since old new (TornFrom (may_leave old) at bytes)
+  one_write old new at bytes time crash =
+      let before = started moment left_since old (TornFrom (may_leave old) at bytes) (λ image left. (image, only_now old image left, nothing_torn at bytes image)) in
+      goes_on moment left_since old old new (TornFrom (may_leave old) at bytes) (may_leave new) before time crash

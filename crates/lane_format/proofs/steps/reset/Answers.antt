@@ -21,13 +21,6 @@ returns-clause-empty g c =
     let both = changed_twice (written 1 behind) (written 0 (1 ∷ [])) (emptied c.args.generation c.args.lane) start (λ bytes. 0 < length bytes) c.requires (header_then_gate c.args.generation c.args.lane) in
     on_ok_weaker c.put-2.result (λ gate. gate ∙ ap (option_map (written 0 (1 ∷ []))) header ∙ both) c.put-2.ensures.written
 
-pub returns-in_err-put-clause-moments : goal.returns-in_err-put-clause-moments
-returns-in_err-put-clause-moments g c = λ closed.
-    let D = g.D.Disk in
-    let old = c.args.disk.now in
-    let header = c.header.result in
-    weaker D.moment D.left_since old c.put.new.disk (TornFrom (D.may_leave old) 1 header) (NotOpenOrEmpty c.args.generation c.args.lane) (λ image torn. inl (after_header (D.may_leave old) header closed.each image torn)) c.put.ensures.moments
-
 pub returns-clause-moments : goal.returns-clause-moments
 returns-clause-moments g c = λ closed.
     let D = g.D.Disk in

@@ -1,33 +1,11 @@
-use Rattle.std.proofs.Common.{◌≡◌, inl, sym, ◌∙◌, ap, subst, arith, IsSome, OnOk}
+use Rattle.std.proofs.Common.{◌≡◌, sym, ◌∙◌, ap, subst, arith, IsSome, OnOk}
 use Rattle.std.specs.Option.{option_map}
-use Rattle.disk_core.specs.Crash.{LeavesOnly, NothingPending}
-use Rattle.lane_format.specs.Crash.{IsNotOpen, OldOrNotOpen}
+use Rattle.disk_core.specs.Crash.{NothingPending}
+use Rattle.lane_format.specs.Crash.{IsNotOpen}
 use Rattle.lane_format.specs.Lane.{shut}
-use Rattle.lane_format.proofs.Left.{both_ok, no_call, now_as_ever, now_as_told}
+use Rattle.lane_format.proofs.Left.{both_ok, now_as_told}
 use Rattle.lane_format.proofs.Told.{at_done, told_after}
 use Rattle.lane_format.proofs.writer.LaneWriter.close.Goals as goal
-
-pub returns-in_err-live-clause-moments : goal.returns-in_err-live-clause-moments
-returns-in_err-live-clause-moments g c =
-    let D = g.D.Disk in
-    let old = c.args.self.now.disk in
-    no_call D.content D.may_leave D.moment D.left_since g.met.D.Disk.only_now old (OldOrNotOpen D.may_leave old) (λ image now. inl now)
-
-pub returns-in_err-live-clause-crash : goal.returns-in_err-live-clause-crash
-returns-in_err-live-clause-crash g c = λ told. record { told = told; each = λ image now. inl now }
-
-pub returns-clause-moments : goal.returns-clause-moments
-returns-clause-moments g c =
-    let D = g.D.Disk in
-    let old = c.args.self.now.disk in
-    subst (λ d. LeavesOnly D.moment D.left_since old d (OldOrNotOpen D.may_leave old)) (sym c.finish.ensures.disk) c.close-done.ensures.moments
-
-pub returns-clause-crash : goal.returns-clause-crash
-returns-clause-crash g c = λ told.
-    let D = g.D.Disk in
-    let old = c.args.self.now.disk in
-    let new_told = subst (λ d. IsSome (D.content d)) (sym c.finish.ensures.disk) (c.close-done.ensures.told told) in
-    now_as_ever D.content D.may_leave D.moment D.left_since g.met.D.Disk.counts_now old c.finish.new.self.disk (OldOrNotOpen D.may_leave old) new_told (returns-clause-moments g c)
 
 pub returns-clause-durable : goal.returns-clause-durable
 returns-clause-durable g c =

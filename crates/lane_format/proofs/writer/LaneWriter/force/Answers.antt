@@ -1,10 +1,9 @@
 use Rattle.std.proofs.Common.{◌≡◌, ◌+◌, ◌++◌, [], ◌∷◌, List, ℕ, length, ⊎_elim, sym, ◌∙◌, ap, subst, arith, IsSome, OnOk}
 use Rattle.std.specs.Option.{option_map}
-use Rattle.disk_core.specs.Crash.{LeavesOnly, NothingPending}
-use Rattle.lane_format.specs.Crash.{WithOrWithout}
+use Rattle.disk_core.specs.Crash.{NothingPending}
 use Rattle.lane_format.specs.Lane.{extended, frame_text, body_of, IsLane, lane_text}
 use Rattle.lane_format.specs.Writer.{lane_of}
-use Rattle.lane_format.proofs.Left.{both_ok, now_as_ever, now_as_told, some_of}
+use Rattle.lane_format.proofs.Left.{both_ok, now_as_told}
 use Rattle.lane_format.proofs.Told.{at_done, told_after}
 use Rattle.lane_format.proofs.Lanes.{gate_inside, grown, length-push, length-frame_text}
 use Rattle.lane_format.specs.declared.writer.Stage.TheVariants.{Open}
@@ -43,34 +42,6 @@ returns-clause-appended g c = at_done _ _ c.append-done.result c.finish.result c
           (λ x told. (sym same ∙ holds.place x told, holds.file x told))
           (λ x is. rw c.finish.ensures.lane (grown generation lane bodies gate body x is.0 is.1));
     })
-
-pub returns-in-Failed-clause-moments : goal.returns-in-Failed-clause-moments
-returns-in-Failed-clause-moments g c = λ generation bodies settled. absurd (let both = sym settled.holds.stage ∙ c.in-Failed.is in cc)
-
-pub returns-in-Failed-clause-crash : goal.returns-in-Failed-clause-crash
-returns-in-Failed-clause-crash g c = λ generation bodies settled. absurd (let both = sym settled.holds.stage ∙ c.in-Failed.is in cc)
-
-pub returns-clause-moments : goal.returns-clause-moments
-returns-clause-moments g c = λ generation bodies settled.
-    let D = g.D.Disk in
-    let old = c.args.self.now.disk in
-    let lane = c.args.self.now.lane in
-    let body = body_of c.args.frame.now in
-    let P = WithOrWithout generation lane bodies body in
-    let holds = settled.holds in
-    let stage : Open generation holds.gate ≡ Open c.in-Open.generation c.in-Open.gate = sym holds.stage ∙ c.in-Open.is in
-    let same : holds.gate ≡ c.in-Open.gate = cc in
-    let bytes = some_of (D.content old) settled.crash.told in
-    let place : c.in-Open.gate ≡ length (lane_text generation lane bodies) = sym same ∙ holds.place bytes.0 bytes.1 in
-    subst (λ d. LeavesOnly D.moment D.left_since old d P) (sym c.finish.ensures.disk) (c.append-done.ensures.moments generation lane bodies body place c.fill.ensures settled.crash)
-
-pub returns-clause-crash : goal.returns-clause-crash
-returns-clause-crash g c = λ generation bodies settled.
-    let D = g.D.Disk in
-    let old = c.args.self.now.disk in
-    let P = WithOrWithout generation c.args.self.now.lane bodies (body_of c.args.frame.now) in
-    let told = subst (λ d. IsSome (D.content d)) (sym c.finish.ensures.disk) (c.append-done.ensures.told settled.crash.told) in
-    now_as_ever D.content D.may_leave D.moment D.left_since g.met.D.Disk.counts_now old c.finish.new.self.disk P told (returns-clause-moments g c generation bodies settled)
 
 pub returns-clause-durable : goal.returns-clause-durable
 returns-clause-durable g c =

@@ -1,10 +1,9 @@
-use Rattle.std.proofs.Common.{◌≡◌, ℕ, [], length, inl, sym, ◌∙◌, ap, subst, IsSome, OnOk}
+use Rattle.std.proofs.Common.{◌≡◌, ℕ, [], length, sym, ◌∙◌, ap, subst, IsSome, OnOk}
 use Rattle.std.specs.Option.{option_map}
-use Rattle.disk_core.specs.Crash.{LeavesOnly, NothingPending}
-use Rattle.lane_format.specs.Crash.{NotOpenOrEmpty}
+use Rattle.disk_core.specs.Crash.{NothingPending}
 use Rattle.lane_format.specs.Lane.{emptied, IsLane, lane_text}
 use Rattle.lane_format.specs.Writer.{lane_of}
-use Rattle.lane_format.proofs.Left.{both_ok, no_call, now_as_ever, now_as_told}
+use Rattle.lane_format.proofs.Left.{both_ok, now_as_told}
 use Rattle.lane_format.proofs.Told.{at_done, told_after}
 use Rattle.lane_format.proofs.Lanes.{empty_lane, length-empty}
 use Rattle.lane_format.proofs.writer.LaneWriter.reset.Goals as goal
@@ -22,28 +21,6 @@ returns-clause-empty g c = at_done _ _ c.reset-done.result c.finish.result c.res
       file = told_after (emptied generation lane) (content c.args.self.now.disk) (content c.finish.new.self.disk) (λ _. Unit {0}) (IsLane generation (lane_of c.finish.new.self) []) changed (λ _ _. tt)
           (λ x _. rw c.finish.ensures.lane (empty_lane generation lane x));
     })
-
-pub returns-in_err-live-clause-moments : goal.returns-in_err-live-clause-moments
-returns-in_err-live-clause-moments g c = λ closed.
-    let D = g.D.Disk in
-    let old = c.args.self.now.disk in
-    no_call D.content D.may_leave D.moment D.left_since g.met.D.Disk.only_now old (NotOpenOrEmpty c.args.generation c.args.self.now.lane) (λ image now. inl (closed.each image now))
-
-pub returns-in_err-live-clause-crash : goal.returns-in_err-live-clause-crash
-returns-in_err-live-clause-crash g c = λ closed. record { told = closed.told; each = λ image now. inl (closed.each image now) }
-
-pub returns-clause-moments : goal.returns-clause-moments
-returns-clause-moments g c = λ closed.
-    let D = g.D.Disk in
-    let old = c.args.self.now.disk in
-    subst (λ d. LeavesOnly D.moment D.left_since old d (NotOpenOrEmpty c.args.generation c.args.self.now.lane)) (sym c.finish.ensures.disk) (c.reset-done.ensures.moments closed)
-
-pub returns-clause-crash : goal.returns-clause-crash
-returns-clause-crash g c = λ closed.
-    let D = g.D.Disk in
-    let old = c.args.self.now.disk in
-    let told = subst (λ d. IsSome (D.content d)) (sym c.finish.ensures.disk) (c.reset-done.ensures.told closed.told) in
-    now_as_ever D.content D.may_leave D.moment D.left_since g.met.D.Disk.counts_now old c.finish.new.self.disk (NotOpenOrEmpty c.args.generation c.args.self.now.lane) told (returns-clause-moments g c closed)
 
 pub returns-clause-durable : goal.returns-clause-durable
 returns-clause-durable g c =
