@@ -13,8 +13,18 @@ struct Ran {
     disk: MemDisk,
 }
 
-/// Runs a script over an empty log file. The named pulls and pushes fail.
-fn run(alloc: Global, script: &str, pulls: &[u64], pushes: &[u64]) -> Result<Ran, OutOfMemory> {
+fn disk(alloc: Global, bytes: &[u8]) -> Result<MemDisk, OutOfMemory> {
+    MemDisk::new(alloc, bytes.to_vec(alloc)?, 4000)
+}
+
+/// Runs a script over a log file. The named pulls and pushes fail.
+fn run(
+    alloc: Global,
+    even: MemDisk,
+    script: &str,
+    pulls: &[u64],
+    pushes: &[u64],
+) -> Result<Ran, OutOfMemory> {
     let mut words = Vec::new(alloc);
     for word in ["run", "folder"] {
         words.push(Word::new(alloc, word)?)?;
@@ -22,13 +32,11 @@ fn run(alloc: Global, script: &str, pulls: &[u64], pushes: &[u64]) -> Result<Ran
     let mut source = MemSource::new(script.as_bytes().to_vec(alloc)?, pulls.to_vec(alloc)?);
     let room = Vec::with_capacity(alloc, 1000)?;
     let mut sink = MemSink::with_room(room, pushes.to_vec(alloc)?);
-    let lane = LaneDisks {
-        even: MemDisk::new(alloc, Vec::new(alloc), 1000)?,
-        odd: MemDisk::new(alloc, Vec::new(alloc), 0)?,
-    };
+    let odd = disk(alloc, b"")?;
+    let lane = LaneDisks { even, odd };
     let store = Store {
-        area_a: MemDisk::new(alloc, Vec::new(alloc), 0)?,
-        area_b: MemDisk::new(alloc, Vec::new(alloc), 0)?,
+        area_a: disk(alloc, b"")?,
+        area_b: disk(alloc, b"")?,
         lanes: vec![in alloc; lane]?,
     };
     let Ended { status, mut store } = ptime(alloc, &words, &mut source, &mut sink, store);
@@ -40,22 +48,37 @@ const PAIR: &str = "session 1\nINSERT INTO kv VALUES (1, 10);\nSELECT * FROM kv 
 
 const PAIR_SHOWN: &str = "session 1\nok 1\n1, 10\nrows 1\n";
 
+const AGAIN: &str = "session 1\nINSERT INTO kv VALUES (1, 9);\nSELECT * FROM kv WHERE id = 2;\n";
+
+const EMPTY: &[u8] = b"\x01\x02\0\0\0\0\0\0\0\0\0\0";
+
+const ONE: &[u8] =
+    b"\x01\x02\0\0\0\0\0\0\0\0\0\x01\x10\0\0\0\x01\0\0\0\0\0\0\0\x0a\0\0\0\0\0\0\0\0";
+
+const OTHER_GENERATION: &[u8] =
+    b"\x01\x04\0\0\0\0\0\0\0\0\0\x01\x10\0\0\0\x01\0\0\0\0\0\0\0\x0a\0\0\0\0\0\0\0\0";
+
 #[test]
-fn rows(rt: HostRuntime) -> Result<(), Fail> {
-    let empty = b"\x01\x02\0\0\0\0\0\0\0\0\0\0".as_slice();
-    let one =
-        b"\x01\x02\0\0\0\0\0\0\0\0\0\x01\x10\0\0\0\x01\0\0\0\0\0\0\0\x0a\0\0\0\0\0\0\0\0".as_slice();
+fn rows_in_order_over_one_file(rt: HostRuntime) -> Result<(), Fail> {
     let rows = [
-        ("", 0, "", empty),
-        (PAIR, 0, PAIR_SHOWN, one),
-        ("session 2\n", 7, "fault SCRIPT\n", b"".as_slice()),
+        ("", 0, "", EMPTY),
+        (PAIR, 0, PAIR_SHOWN, ONE),
+        (AGAIN, 0, "session 1\nrefused DUPLICATE 1\nrows 0\n", ONE),
+        ("session 2\n", 7, "fault SCRIPT\n", ONE),
     ];
+    let mut even = disk(rt.alloc(), b"")?;
     for (script, status, shown, file) in rows {
-        let ran = run(rt.alloc(), script, &[], &[])?;
+        let ran = run(rt.alloc(), even, script, &[], &[])?;
         assert_eq!(rt; ran.status, status);
         assert_eq!(rt; ran.sink.bytes(), shown.as_bytes());
         assert_eq!(rt; ran.disk.bytes(), file);
+        even = ran.disk;
     }
+    let other = disk(rt.alloc(), OTHER_GENERATION)?;
+    let ran = run(rt.alloc(), other, PAIR, &[], &[])?;
+    assert_eq!(rt; ran.status, 8);
+    assert_eq!(rt; ran.sink.bytes(), b"fault DAMAGED\n".as_slice());
+    assert_eq!(rt; ran.disk.bytes(), OTHER_GENERATION);
     Ok(())
 }
 
@@ -69,9 +92,121 @@ fn a_source_or_a_sink_that_fails(rt: HostRuntime) -> Result<(), Fail> {
         ([3].as_slice(), [2].as_slice(), 0, PAIR_SHOWN),
     ];
     for (pulls, pushes, status, shown) in rows {
-        let ran = run(rt.alloc(), PAIR, pulls, pushes)?;
+        let ran = run(rt.alloc(), disk(rt.alloc(), b"")?, PAIR, pulls, pushes)?;
         assert_eq!(rt; ran.status, status);
         assert_eq!(rt; ran.sink.bytes(), shown.as_bytes());
+    }
+    Ok(())
+}
+
+const THREE: &str =
+    "session 1\nINSERT INTO kv VALUES (1, 10);\nINSERT INTO kv VALUES (2, 20);\nINSERT INTO kv VALUES (3, 30);\n";
+
+const THREE_MORE: &str =
+    "session 1\nINSERT INTO kv VALUES (2, 20);\nINSERT INTO kv VALUES (3, 30);\nINSERT INTO kv VALUES (4, 40);\n";
+
+const LOOK_UPS: &str =
+    "session 1\nSELECT * FROM kv WHERE id = 1;\nSELECT * FROM kv WHERE id = 2;\nSELECT * FROM kv WHERE id = 3;\nSELECT * FROM kv WHERE id = 4;\n";
+
+/// What a run of three inserts prints, so many of which are acknowledged.
+fn acknowledging(inserts: u64) -> &'static str {
+    match inserts {
+        0 => "session 1\nstopped\nstopped\nstopped\nfault DISK lane0.even\n",
+        1 => "session 1\nok 1\nstopped\nstopped\nfault DISK lane0.even\n",
+        2 => "session 1\nok 1\nok 1\nstopped\nfault DISK lane0.even\n",
+        _ => "session 1\nok 1\nok 1\nok 1\n",
+    }
+}
+
+/// What the look-ups print where the first so many pairs are there.
+fn holding(pairs: u64) -> &'static str {
+    match pairs {
+        0 => "session 1\nrows 0\nrows 0\nrows 0\nrows 0\n",
+        1 => "session 1\n1, 10\nrows 1\nrows 0\nrows 0\nrows 0\n",
+        2 => "session 1\n1, 10\nrows 1\n2, 20\nrows 1\nrows 0\nrows 0\n",
+        3 => "session 1\n1, 10\nrows 1\n2, 20\nrows 1\n3, 30\nrows 1\nrows 0\n",
+        _ => "session 1\n1, 10\nrows 1\n2, 20\nrows 1\n3, 30\nrows 1\n4, 40\nrows 1\n",
+    }
+}
+
+/// A run of three inserts whose change call of this number fails.
+#[derive(Drop)]
+struct Failing {
+    /// How many pairs the log file begins with, and its bytes.
+    pairs: u64,
+    file: &'static [u8],
+    script: &'static str,
+    /// How many change calls come before those of the first insert.
+    opening: u64,
+    failing: u64,
+}
+
+impl Failing {
+    /// How many inserts come to their end: each takes four change calls.
+    fn acknowledged(&self) -> u64 {
+        self.failing.saturating_sub(1).saturating_sub(self.opening) / 4
+    }
+
+    fn shown(&self) -> &'static str {
+        if self.failing > self.opening {
+            acknowledging(self.acknowledged())
+        } else {
+            "fault DISK lane0.even\n"
+        }
+    }
+
+    /// Runs it, and whether what a crash leaves then has the pairs acknowledged, and at most one more.
+    fn is_borne(&self, alloc: Global, choice: &[u8], whole: bool) -> Result<bool, OutOfMemory> {
+        let even = disk(alloc, self.file)?.failing(vec![in alloc; self.failing]?, Vec::new(alloc));
+        let ran = run(alloc, even, self.script, &[], &[])?;
+        if ran.sink.bytes() != self.shown().as_bytes() {
+            return Ok(false);
+        }
+        let (least, most) = (ran.disk.least_size(), ran.disk.bytes().len() as u64);
+        let size = if whole { most } else { least };
+        let left = run(alloc, ran.disk.crash(choice, size), LOOK_UPS, &[], &[])?;
+        let kept = self.pairs.saturating_add(self.acknowledged());
+        let shown = left.sink.bytes();
+        Ok(shown == holding(kept).as_bytes() || shown == holding(kept.saturating_add(1)).as_bytes())
+    }
+
+    fn is_borne_always(&self, alloc: Global) -> Result<bool, OutOfMemory> {
+        for choice in [b"".as_slice(), b"\0", b"\x01", b"\xff"] {
+            if !self.is_borne(alloc, choice, false)? || !self.is_borne(alloc, choice, true)? {
+                return Ok(false);
+            }
+        }
+        Ok(true)
+    }
+}
+
+#[test]
+fn what_was_acknowledged_is_there_after_a_crash(rt: HostRuntime) -> Result<(), Fail> {
+    for failing in 1..20 {
+        let case = Failing {
+            pairs: 0,
+            file: b"",
+            script: THREE,
+            opening: 6,
+            failing,
+        };
+        assert!(rt;
+            case.is_borne_always(rt.alloc())?,
+            "over no bytes, {failing} fails"
+        );
+    }
+    for failing in 1..14 {
+        let case = Failing {
+            pairs: 1,
+            file: ONE,
+            script: THREE_MORE,
+            opening: 0,
+            failing,
+        };
+        assert!(rt;
+            case.is_borne_always(rt.alloc())?,
+            "over one pair, {failing} fails"
+        );
     }
     Ok(())
 }
