@@ -1,5 +1,5 @@
 -- A disk that is only read: a crash leaves what it might have left before.
-use Rattle.std.proofs.Common.{ℕ, ◌≤◌, List}
+use Rattle.std.proofs.Common.{ℕ, List}
 use Rattle.disk_core.specs.Crash.{Elapses, NoneNew}
 use Rattle.disk_core.proofs.Moments.{started, goes_on, joined, weaker}
 use Rattle.shell.specs.Survival.{LeavesAsWas}

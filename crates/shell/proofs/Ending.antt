@@ -1,5 +1,5 @@
 -- How a run over a session ends.
-use Rattle.std.proofs.Common.{◌≡◌, ◌≢◌, inl, inr, ℕ, ◌-◌, ◌<◌, ◌≤◌, List, ◌++◌, length, map, take, replicate, Option, Some, Result, Ok, Err, IfErr, refl, sym, ◌∙◌, ap, subst}
+use Rattle.std.proofs.Common.{◌≡◌, inr, ℕ, ◌-◌, ◌<◌, List, ◌++◌, length, map, take, replicate, Option, Some, refl, sym, ◌∙◌, ap, subst}
 use Rattle.std.specs.Option.{ForSome}
 use Rattle.causes.specs.Causes.{Rose}
 use Rattle.disk_core.specs.declared.store.FileName.{FileName}
@@ -8,7 +8,7 @@ use Rattle.lane_format.specs.Writer.{disk_of, even_file}
 use Rattle.shell.specs.Keeping.{Keeps}
 use Rattle.shell.specs.Kv.{Pairs, pair_body, pairs_after_all, replies_to}
 use Rattle.shell.specs.Log.{BeginsWith, IsLogOf}
-use Rattle.shell.specs.Outcome.{Finishes, RunsShort, Runs, StopsAt}
+use Rattle.shell.specs.Outcome.{Runs, StopsAt}
 use Rattle.shell.specs.declared.end.End.{End}
 use Rattle.shell.specs.declared.end.End.TheVariants as end
 use Rattle.shell.specs.declared.reply.Reply.{Reply}
@@ -44,10 +44,14 @@ module _ {D : Type 0} (content : D → Option (List ℕ)) (faults : D → ℕ) (
     pub run_short : e ≡ end.OutOfMemory → shown ≡ Some (replies ++ replicate (length statements - n) StoppedMemory) → Keeps content session (pairs_after_all pairs (take n statements)) → Runs content faults (Some statements) disk e shown now
     run_short is shown_is keeps =
         subst (λ (x : End). Runs content faults (Some statements) disk x shown now) (sym is)
-        (inr (pairs, entry, record {
-          stops = stops_there pairs statements shown n replies StoppedMemory within are shown_is;
-          kept = λ bytes told. keeps_log content session (pairs_after_all pairs (take n statements)) keeps bytes (ap content (sym now_is) ∙ told);
-        }))
+        (inr (
+          pairs,
+          entry,
+          record {
+            stops = stops_there pairs statements shown n replies StoppedMemory within are shown_is;
+            kept = λ bytes told. keeps_log content session (pairs_after_all pairs (take n statements)) keeps bytes (ap content (sym now_is) ∙ told);
+          },
+        ))
 
     pub run_failed : (file : FileName) → e ≡ end.Disk file → shown ≡ Some (replies ++ replicate (length statements - n) Stopped) → file ≡ even_file 0 → Rose (faults disk) (faults (disk_of session.writer))
         → Runs content faults (Some statements) disk e shown now

@@ -1,6 +1,5 @@
 -- What a crash leaves of a run over a session, statement by statement.
-use Rattle.std.proofs.Common.{◌≡◌, inl, inr, ℕ, zero, suc, ◌+◌, ◌≤◌, List, [], ◌∷◌, ◌++◌, length, take, Option, Some, None, refl, sym, ◌∙◌, ap, subst, arith}
-use Rattle.std.proofs.lemmas.List.{take_all}
+use Rattle.std.proofs.Common.{◌≡◌, inl, inr, ℕ, ◌+◌, ◌≤◌, List, [], ◌∷◌, ◌++◌, length, take, Option, Some, None, refl, sym, ◌∙◌, ap, subst, arith}
 use Rattle.disk_core.specs.Crash.{LeavesOnly}
 use Rattle.disk_core.proofs.Moments.{joined, started, weaker}
 use Rattle.lane_format.specs.Crash.{LeavesNow}
@@ -9,8 +8,7 @@ use Rattle.shell.specs.Keeping.{Secures}
 use Rattle.shell.specs.Kv.{Pairs, pairs_after, pairs_after_all}
 use Rattle.shell.specs.Log.{BeginsWith, IsLogOf}
 use Rattle.shell.specs.Outcome.{CannotOpen, StopsAt}
-use Rattle.shell.specs.Script.{statements_in}
-use Rattle.shell.specs.Survival.{HasFirst, IsQuiet, LeftUnbegun, Outlasts, OutlastsStop, Survives, WithOrWithout}
+use Rattle.shell.specs.Survival.{HasFirst, IsQuiet, LeftUnbegun, Outlasts, Survives, WithOrWithout}
 use Rattle.shell.proofs.Answering.{pairs_after_all-push}
 use Rattle.shell.specs.declared.end.End.{End}
 use Rattle.shell.specs.declared.end.End.TheVariants as end
@@ -137,10 +135,14 @@ module _ {D : Type 0} (content : D → Option (List ℕ)) (may_leave : D → Lis
   -- a session was begun, for no statements
   pub begun_alone : (bytes : List ℕ) (pairs : Pairs) (disk : D) (session : Session D) → BeginsWith pairs bytes → Secures content may_leave session pairs → LeavesOnly moment left_since disk (disk_of session.writer) (BeginsWith pairs)
       → Survives may_leave moment left_since bytes None disk end.Done None (disk_of session.writer)
-  begun_alone bytes pairs disk session entry secures opened = (pairs, entry, record {
-    moments = weaker moment left_since disk (disk_of session.writer) (BeginsWith pairs) (HasFirst pairs [] 0 0) (λ image begins. (0, omega arith, omega arith, begins)) opened;
-    now = λ image left. has_first pairs [] 0 0 0 image (omega arith) (omega arith) (secures.crash.each image left);
-  })
+  begun_alone bytes pairs disk session entry secures opened = (
+    pairs,
+    entry,
+    record {
+      moments = weaker moment left_since disk (disk_of session.writer) (BeginsWith pairs) (HasFirst pairs [] 0 0) (λ image begins. (0, omega arith, omega arith, begins)) opened;
+      now = λ image left. has_first pairs [] 0 0 0 image (omega arith) (omega arith) (secures.crash.each image left);
+    },
+  )
 
   -- said with other names of the same
   pub survives_as : (bytes : List ℕ) (disk : D) (script script' : Option (List Statement)) (e e' : End) (shown shown' : Option (List Reply)) (now now' : D) → script' ≡ script → e' ≡ e → shown' ≡ shown → now' ≡ now

@@ -1,17 +1,16 @@
 -- What a session secures against a crash.
-use Rattle.std.proofs.Common.{◌≡◌, ◌⊎◌, inl, inr, ℕ, ◌+◌, ◌≤◌, ℤ, Bool, true, false, is_some, List, [], ◌∷◌, ◌++◌, length, map, Option, Some, IsSome, None, refl, sym, ◌∙◌, ap, subst, arith}
-use Rattle.std.specs.Option.{ForSome}
+use Rattle.std.proofs.Common.{◌≡◌, inl, inr, ℕ, ◌≤◌, ℤ, true, false, is_some, List, [], ◌∷◌, ◌++◌, map, Option, Some, IsSome, None, refl, sym, ◌∙◌, subst, arith}
 use Rattle.std.proofs.lemmas.List.{map-append}
-use Rattle.disk_core.specs.Crash.{LeavesOnly, Only}
-use Rattle.disk_core.proofs.Moments.{joined, started, weaker}
-use Rattle.lane_format.specs.Crash.{IsNotOpen, LeavesNow}
+use Rattle.disk_core.specs.Crash.{LeavesOnly}
+use Rattle.disk_core.proofs.Moments.{joined, weaker}
+use Rattle.lane_format.specs.Crash.{LeavesNow}
 use Rattle.lane_format.specs.Crash.{WithOrWithout as EitherLane}
 use Rattle.lane_format.specs.Lane.{IsLane}
 use Rattle.lane_format.specs.Writer.{IsSettled, disk_of, lane_of}
 use Rattle.shell.specs.Keeping.{Keeps, Secures}
 use Rattle.shell.specs.Kv.{Pairs, pair_body, pairs_after, used_bytes, value_of}
-use Rattle.shell.specs.Log.{BeginsWith, FitsPair, IsLogOf, IsOpen, MayBeLogged}
-use Rattle.shell.specs.Survival.{IsQuiet, LeavesAsWas, OldOrEmpty, WithOrWithout}
+use Rattle.shell.specs.Log.{FitsPair, IsLogOf, MayBeLogged}
+use Rattle.shell.specs.Survival.{IsQuiet, LeavesAsWas, WithOrWithout}
 use Rattle.shell.proofs.Pairs.{accepted, logged-push, none_there}
 use Rattle.shell.specs.declared.session.Session.{Session}
 use Rattle.shell.specs.declared.statement.Statement.TheVariants.{Insert}

@@ -67,7 +67,7 @@ Explains words before fell after risen content faults disk end shown now =
 abbrev pub Lasts : Option Content → {D : Type 0} → (D → Option (List ℕ)) → (D → List ℕ → Type 0) → (D → ℕ) → (D → ℕ → List ℕ → Type 0) → D → End → Option (List Reply) → D → Type 0
 Lasts before content may_leave moment left_since disk end shown now =
     (now ≡ disk) ⊎ ((script : Option (List Statement)) × ForSome before (λ content. IsScript (take read_limit content.left) script)
-        × ((bytes : List ℕ) → IsQuiet content may_leave disk bytes → Survives may_leave moment left_since bytes script disk end shown now))
+    × ((bytes : List ℕ) → IsQuiet content may_leave disk bytes → Survives may_leave moment left_since bytes script disk end shown now))
 
 -- A call ended in one of these ways and for this reason, that is what it showed, and that is what a crash leaves.
 pub record Answers {D : Type 0} (words : List (List ℕ)) (before : Option Content) (fell : ℕ) (after : Option Content) (risen : ℕ) (start : Option (List ℕ)) (fell' : ℕ) (taken : Option (List ℕ)) (risen' : ℕ)

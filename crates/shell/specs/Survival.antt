@@ -2,7 +2,8 @@
 use Rattle.std.specs.Prelude.{◌≡◌, ◌⊎◌, ℕ, ◌+◌, ◌≤◌, List, [], length, take, Option, None, Some}
 use Rattle.disk_core.specs.Crash.{LeavesOnly, NoneNew, Only}
 use Rattle.shell.specs.Kv.{Pairs, pairs_after, pairs_after_all}
-use Rattle.shell.specs.Log.{BeginsWith, IsLogOf, IsOpen}
+use Rattle.lane_format.specs.Crash.{IsOpen}
+use Rattle.shell.specs.Log.{BeginsWith, IsLogOf}
 use Rattle.shell.specs.Outcome.{StopsAt}
 use Rattle.shell.specs.Script.{statements_in}
 use Rattle.shell.specs.declared.statement.Statement.{Statement}

@@ -9,7 +9,8 @@ ghost use Rattle.lane_format.specs.Lane.{header_text};
 ghost use Rattle.lane_format.specs.Writer.{even_file};
 ghost use Rattle.shell.specs.Keeping.{IsMapOf};
 ghost use Rattle.shell.specs.Kv.{Pairs};
-ghost use Rattle.shell.specs.Log.{IsOpen, MayBeLogged};
+ghost use Rattle.lane_format.specs.Crash.{IsOpen};
+ghost use Rattle.shell.specs.Log.{MayBeLogged};
 ghost use Rattle.shell.specs.Opening.{Adds, HasClosedGate, IsFound, Reached};
 ghost use Rattle.shell.specs.Survival.{LeavesAsWas};
 
@@ -139,7 +140,11 @@ fn read_piece<D: Disk>(
     let piece = &mut room[..len];
     disk.read_at(at, piece)?;
     if len < BATCH {
-        return Ok(if ends(piece) { Front::Ends } else { Front::Breaks });
+        return Ok(if ends(piece) {
+            Front::Ends
+        } else {
+            Front::Breaks
+        });
     }
     add_batches(pairs, piece)
 }

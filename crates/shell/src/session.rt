@@ -33,7 +33,8 @@ impl<D: Disk> Session<D> {
     ghost use Rattle.shell.specs.Keeping.{IsMapOf, Keeps, Secures};
     ghost use Rattle.shell.specs.Survival.{IsQuiet, LeftUnbegun, WithOrWithout};
     ghost use Rattle.shell.specs.Kv.{Pairs, found, pairs_after, reply_to, value_of};
-    ghost use Rattle.shell.specs.Log.{BeginsWith, IsLogOf, IsOpen, MayBeLogged, Holding, lane_reads};
+    ghost use Rattle.lane_format.specs.Crash.{IsOpen};
+    ghost use Rattle.shell.specs.Log.{BeginsWith, IsLogOf, MayBeLogged, Holding, lane_reads};
     ghost use Rattle.shell.specs.Outcome.{CannotOpen};
 
     /// Begins over a log file. One that isn't open becomes an open lane with no pairs; one that is the log of
@@ -42,7 +43,7 @@ impl<D: Disk> Session<D> {
         ensures begun { IfOk result (λ session. (pairs : Pairs) × Keeps D.content session pairs
             × ForSome (D.content disk) (BeginsWith pairs) × (D.faults disk ≤ D.faults (disk_of session.writer))
             × ((bytes : List ℕ) → IsQuiet D.content D.may_leave disk bytes → Secures D.content D.may_leave session pairs
-                × LeavesOnly D.moment D.left_since disk (disk_of session.writer) (BeginsWith pairs))) }
+            × LeavesOnly D.moment D.left_since disk (disk_of session.writer) (BeginsWith pairs))) }
         ensures refused { IfErr result (λ e. CannotOpen D.content D.faults disk e.0 e.1 × (D.faults disk ≤ D.faults e.1)) }
         ensures unbegun { IfErr result (λ e. (bytes : List ℕ) → IsQuiet D.content D.may_leave disk bytes
             → LeavesOnly D.moment D.left_since disk e.1 (LeftUnbegun e.0 bytes)) }

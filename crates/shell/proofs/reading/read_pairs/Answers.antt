@@ -1,5 +1,5 @@
-use Rattle.std.proofs.Common.{rules, ◌≡◌, ℕ, List, [], ◌≤◌, length, Option, refl, sym, ◌∙◌, ap, subst, arith}
-use Rattle.shell.specs.Opening.{Comes, Reached}
+use Rattle.std.proofs.Common.{ℕ, List, Option, refl, sym, ◌∙◌, subst, arith}
+use Rattle.shell.specs.Opening.{Reached}
 use Rattle.shell.specs.declared.reading.Front.{Front}
 use Rattle.shell.specs.declared.reading.Front.TheVariants as front
 use Rattle.shell.proofs.AsWas.{read_on, unread}

@@ -1,4 +1,4 @@
-use Rattle.std.proofs.Common.{rules, ◌≡◌, ℕ, List, IfOk, w64, to_z, of_z, subst}
+use Rattle.std.proofs.Common.{rules, ◌≡◌, IfOk, w64, to_z, of_z, subst}
 use Rattle.shell.specs.Keeping.{Keeps}
 use Rattle.shell.specs.Kv.{Pairs, pairs_after, reply_to}
 use Rattle.shell.specs.declared.statement.Statement.{Statement}

@@ -5,7 +5,7 @@ use Rattle.lane_format.specs.declared.writer.LaneWriter.{LaneWriter}
 use Rattle.std.specs.Option.{ForSome}
 use Rattle.lane_format.specs.declared.writer.Stage.TheVariants.{Open}
 use Rattle.shell.specs.Kv.{Pairs, pair_body}
-use Rattle.shell.specs.Log.{IsLogOf, gate_place, log_text}
+use Rattle.shell.specs.Log.{IsLogOf, gate_place}
 use Rattle.shell.proofs.Batches.{length-log}
 use Rattle.shell.proofs.Securing.{quiet_now, secures_of}
 use Rattle.shell.specs.declared.session.Session.{Session}

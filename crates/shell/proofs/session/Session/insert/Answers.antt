@@ -1,9 +1,8 @@
-use Rattle.std.proofs.Common.{◌≡◌, ℕ, ◌+◌, ◌*◌, ◌≤◌, ◌++◌, ◌∷◌, [], List, ℤ, true, false, cond, length, map, Some, Err, is_some, int_cmp, w64, to_z, of_z, sym, ◌∙◌, ap, subst, arith}
+use Rattle.std.proofs.Common.{◌≡◌, ◌+◌, ◌≤◌, ◌++◌, ◌∷◌, [], ℤ, true, false, cond, length, map, Some, is_some, int_cmp, w64, to_z, of_z, sym, ◌∙◌, ap, subst, arith}
 use Rattle.std.proofs.lemmas.Int.{to_z-of_z}
 use Rattle.std.specs.Ordering.{int_eq}
 use Rattle.std.specs.BTreeMap.{get}
 use Rattle.lane_format.specs.Writer.{Holds, IsSettled, disk_of}
-use Rattle.lane_format.specs.declared.writer.Stage.TheVariants.{Open}
 use Rattle.shell.specs.Kv.{value_of, used_bytes, pair_body, pairs_after}
 use Rattle.shell.specs.Log.{gate_place}
 use Rattle.shell.specs.Keeping.{Keeps, Secures}
