@@ -16,3 +16,4 @@ pub mod Ending
 pub mod Answering
 pub mod Statuses
 pub mod Readings
+pub mod Walking
