@@ -42,11 +42,11 @@ new_disk bytes room = record { initial = bytes; calls = []; room = room; changes
 abbrev pub room_of : ℕ → ℕ
 room_of n = 2 * n + 64
 
--- what such a call CrashLeaves of the room: where there is too little it uses none
+-- the room that is left after a change call of n bytes: where there is too little it uses none
 abbrev pub room_after : ℕ → ℕ → ℕ
 room_after n room = if nat_le (room_of n) room then room - room_of n else room
 
--- the faults after a call
+-- how many calls have failed after one that ended so
 abbrev pub faults_after : {T E : Type 0} → Result T E → ℕ → ℕ
 faults_after result faults = if is_err result then one_more faults else faults
 

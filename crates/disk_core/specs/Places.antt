@@ -1,4 +1,4 @@
--- The same, place by place: what a byte may hold after a crash.
+-- What a crash may leave after the change calls of a disk in memory, place by place: what a byte may hold.
 use Rattle.std.specs.Prelude.{◌≡◌, ◌⊎◌, ℕ, zero, suc, ◌+◌, ◌%◌, ◌≤◌, Bool, true, false, not, ◌&&◌, ◌||◌, ◌==◌, nat_le, nat_lt, if◌then◌else◌, List, [], ◌∷◌, length, slice_index, IsTrue, ⊤}
 use Rattle.disk_core.specs.History.{Change, Wrote, Tried, Synced, content_after}
 

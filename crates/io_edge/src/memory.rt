@@ -1,5 +1,5 @@
 // Sources and sinks in memory, which tell their content and fail at the calls that they are told to.
-ghost use Rattle.std.specs.Prelude.{◌≡◌, ◌⊎◌, ◌↔◌, ◌+◌, ◌<◌, ◌≤◌, [], length, min, Contains, IsErr, IfOk, OnOk, OnErr, vec_capacity};
+ghost use Rattle.std.specs.Prelude.{◌≡◌, ◌⊎◌, ◌↔◌, ◌+◌, ◌<◌, ◌≤◌, [], length, drop, min, Contains, IsErr, IfOk, OnOk, OnErr, vec_capacity};
 ghost use Rattle.causes.specs.Causes.{HasCause};
 ghost use Rattle.io_edge.specs.Content.{Pulls};
 ghost use Rattle.io_edge.specs.Pushing.{Pushes};
@@ -69,8 +69,14 @@ impl Source for MemSource {
         // It fails exactly at the calls that are named, and gives as much as fits.
         ensures named { IsErr result ↔ Contains self.old.fail (one_more self.old.pulls) }
         ensures most { IfOk result (λ n. n ≡ min (length into.old) (length self.old.content.left)) }
+
+        // What it doesn't give stays as it was.
+        ensures behind { IfOk result (λ n. drop n into.new ≡ drop n into.old) }
+        ensures nothing { OnErr result (into.new ≡ into.old) }
+
         ensures counted { (self.new.pulls ≡ one_more self.old.pulls) × (self.new.fail ≡ self.old.fail) }
         ensures faults { OnOk result (self.new.faults ≡ self.old.faults) }
+        ensures fault { OnErr result (self.new.faults ≡ one_more self.old.faults) }
     {
         self.pulls = self.pulls.saturating_add(1);
         if self.fail.contains(&self.pulls) {
@@ -160,6 +166,7 @@ impl Sink for MemSink {
         ensures counted { (self.new.pushes ≡ one_more self.old.pushes) × (self.new.fail ≡ self.old.fail) }
         ensures room { self.new.room ≡ self.old.room }
         ensures faults { OnOk result (self.new.faults ≡ self.old.faults) }
+        ensures fault { OnErr result (self.new.faults ≡ one_more self.old.faults) }
     {
         self.pushes = self.pushes.saturating_add(1);
         let left = self.room - self.taken.len();

@@ -1,32 +1,55 @@
 // Standard input and output. They tell no bytes, and count their faults.
-ghost use Rattle.std.specs.Prelude.{◌≡◌, ◌≤◌, None, length, IfOk, OnOk};
+ghost use Rattle.std.specs.Prelude.{◌≡◌, ◌≤◌, None, length, IfOk, OnOk, OnErr};
 ghost use Rattle.causes.specs.Causes.{HasCause};
+ghost use Rattle.io_edge.specs.Named.{one_more};
 
 use crate::{Failed, Sink, Source};
 use std::io::{ErrorKind, Read, Stdin, Stdout, Write};
+use std::marker::Model;
 
-/// Standard input. A read that a signal interrupts is made again.
+/// Standard input, seen as how many of its calls have failed. A read that a signal interrupts is made again.
 #[derive(Drop)]
 pub struct StdSource {
     input: Stdin,
     faults: u64,
 }
 
+impl Model for StdSource {
+    ghost use Rattle.std.specs.Prelude.{ℕ};
+
+    ghost Value = { ℕ };
+
+    ghost view = { λ s. s.faults };
+}
+
 impl StdSource {
-    pub fn new(input: Stdin) -> StdSource {
+    pub fn new(input: Stdin) -> StdSource
+        ensures { result ≡ 0 }
+    {
         StdSource { input, faults: 0 }
     }
 }
 
-/// Standard output. A write that a signal interrupts, or that takes a part, is gone on with.
+/// Standard output, seen as how many of its calls have failed. A write that a signal interrupts, or that takes a part, is
+/// gone on with.
 #[derive(Drop)]
 pub struct StdSink {
     output: Stdout,
     faults: u64,
 }
 
+impl Model for StdSink {
+    ghost use Rattle.std.specs.Prelude.{ℕ};
+
+    ghost Value = { ℕ };
+
+    ghost view = { λ s. s.faults };
+}
+
 impl StdSink {
-    pub fn new(output: Stdout) -> StdSink {
+    pub fn new(output: Stdout) -> StdSink
+        ensures { result ≡ 0 }
+    {
         StdSink { output, faults: 0 }
     }
 }
@@ -34,9 +57,16 @@ impl StdSink {
 impl Source for StdSource {
     ghost content = { λ _. None };
 
-    ghost faults = { λ s. s.faults };
+    ghost faults = { λ failed. failed };
 
-    fn pull(&mut self, into: &mut [u8]) -> Result<usize, Failed> {
+    fn pull(&mut self, into: &mut [u8]) -> Result<usize, Failed>
+        ensures bound { IfOk result (λ n. n ≤ length into.new) }
+        ensures cause { HasCause self.old self.new result }
+
+        // Each fault is counted once, and nothing else is.
+        ensures faults { OnOk result (self.new ≡ self.old) }
+        ensures fault { OnErr result (self.new ≡ one_more self.old) }
+    {
         let pulled = read_some(self.input, into);
         if pulled.is_err() {
             self.faults = self.faults.saturating_add(1);
@@ -61,9 +91,15 @@ fn read_some(mut input: Stdin, into: &mut [u8]) -> Result<usize, Failed>
 impl Sink for StdSink {
     ghost taken = { λ _. None };
 
-    ghost faults = { λ s. s.faults };
+    ghost faults = { λ failed. failed };
 
-    fn push(&mut self, bytes: &[u8]) -> Result<(), Failed> {
+    fn push(&mut self, bytes: &[u8]) -> Result<(), Failed>
+        ensures cause { HasCause self.old self.new result }
+
+        // Each fault is counted once, and nothing else is.
+        ensures faults { OnOk result (self.new ≡ self.old) }
+        ensures fault { OnErr result (self.new ≡ one_more self.old) }
+    {
         let pushed = write_all(self.output, bytes);
         if pushed.is_err() {
             self.faults = self.faults.saturating_add(1);

@@ -7,7 +7,7 @@ use Rattle.lane_format.specs.Lane.{IsLane}
 abbrev pub IsOpen : List ℕ → Type 0
 IsOpen bytes = slice_index bytes 0 ≡ 1
 
--- it isn't: its first byte is another, or it has none
+-- the file isn't open: its first byte is another, or it has none
 abbrev pub IsNotOpen : List ℕ → Type 0
 IsNotOpen bytes = ¬ (IsOpen bytes)
 

@@ -58,7 +58,7 @@ pub record ScriptRan {D : Type 0} (words : List (List ℕ)) (before after : Opti
   pub is : ForSome before (λ content. IsScript (take read_limit content.left) script)
   pub runs : Runs content faults script disk end shown now
 
--- one of the three
+-- the reason of an end: the words ask for no run, no script was read, or one was run
 abbrev pub Explains : List (List ℕ) → Option Content → ℕ → Option Content → ℕ → {D : Type 0} → (D → Option (List ℕ)) → (D → ℕ) → D → End → Option (List Reply) → D → Type 0
 Explains words before fell after risen content faults disk end shown now =
     WrongWords words before after disk end shown now ⊎ (Unread words before fell after risen disk end shown now ⊎ ScriptRan words before after content faults disk end shown now)

@@ -8,6 +8,7 @@ abbrev pub even_or : {D : Type 0} → D → List (LaneDisks D) → D
 even_or other [] = other
 even_or other (lane ∷ lanes) = lane.even
 
+-- the log file of a store: the even one of its first lane
 abbrev pub log_file : {D : Type 0} → Store D → D
 log_file store = even_or store.area_a store.lanes.items
 

@@ -45,7 +45,7 @@ abbrev pub replies_to : Pairs → List Statement → List Reply
 replies_to pairs [] = []
 replies_to pairs (s ∷ ss) = reply_to pairs s ∷ replies_to (pairs_after pairs s) ss
 
--- the pairs that they leave
+-- the pairs that statements leave one after the other
 abbrev pub pairs_after_all : Pairs → List Statement → Pairs
 pairs_after_all pairs [] = pairs
 pairs_after_all pairs (s ∷ ss) = pairs_after_all (pairs_after pairs s) ss

@@ -52,12 +52,13 @@ pub data IsDamaged (bytes : List ℕ) : Type 0 where
   OtherHead : IsOpen bytes → take 11 bytes ≢ header_text 2 0 → IsDamaged bytes
   BreaksOff : (pairs : Pairs) (behind : List ℕ) → MayBeLogged pairs → bytes ≡ log_text pairs ++ behind → Breaks pairs behind → IsDamaged bytes
 
--- What a log file reads as.
+-- What a log file reads as: not open, damaged, or the log of these pairs in this order.
 pub data LaneRead : Type 0 where
   NotOpen : LaneRead
   Damaged : LaneRead
   Holding : (pairs : Pairs) → LaneRead
 
+-- the file reads as that
 abbrev pub lane_reads : List ℕ → LaneRead → Type 0
 lane_reads bytes NotOpen = IsNotOpen bytes
 lane_reads bytes Damaged = IsDamaged bytes

@@ -38,7 +38,7 @@ pub record BeginsWithInsert (text : List ℕ) (s : Statement) (rest : List ℕ) 
   pub fits : Fits s
   pub line : text ≡ statement_text s ++ rest
 
--- the same of a look-up
+-- the text begins with the line of this look-up, and the rest follows
 pub record BeginsWithSelect (text : List ℕ) (s : Statement) (rest : List ℕ) : Type 0 where
   pub key : ℤ
   pub is : s ≡ Select key
