@@ -1,3 +1,5 @@
-pub mod Writes
-pub mod Told
+pub mod Crash
 pub mod Lanes
+pub mod Left
+pub mod Told
+pub mod Writes

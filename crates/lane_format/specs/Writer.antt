@@ -4,6 +4,7 @@ use Rattle.std.specs.Option.{ForSome}
 use Rattle.causes.specs.Causes.{Rose}
 use Rattle.disk_core.specs.declared.store.FileName.{FileName}
 use Rattle.disk_core.specs.declared.store.FileName.TheVariants.{Lane}
+use Rattle.lane_format.specs.Crash.{LeavesNow}
 use Rattle.lane_format.specs.Lane.{lane_text, IsLane}
 use Rattle.lane_format.specs.declared.writer.LaneFault.{LaneFault}
 use Rattle.lane_format.specs.declared.writer.LaneFault.TheVariants.{Disk, Closed}
@@ -42,6 +43,11 @@ pub record Holds {D : Type 0} (content : D → Option (List ℕ)) (w : LaneWrite
   pub stage : stage_of w ≡ Open generation gate
   pub place : ForSome (content (disk_of w)) (λ bytes. gate ≡ length (lane_text generation (lane_of w) bodies))
   pub file : ForSome (content (disk_of w)) (IsLane generation (lane_of w) bodies)
+
+-- Its file is an open lane of this generation with these batches, and so is every file that a crash now leaves.
+pub record IsSettled {D : Type 0} (content : D → Option (List ℕ)) (may_leave : D → List ℕ → Type 0) (w : LaneWriter D) (generation : ℕ) (bodies : List (List ℕ)) : Type 0 where
+  pub holds : Holds content w generation bodies
+  pub crash : LeavesNow content may_leave (disk_of w) (IsLane generation (lane_of w) bodies)
 
 -- the place of its gate, where its file is open, can still be added to
 abbrev pub IsNear : {D : Type 0} → LaneWriter D → Type 0

@@ -1,10 +1,13 @@
 // The device calls that close, reset and extend a lane file, in the order that a crash wants: a gate is
 // opened by a write of its own, once what it opens is on the disk.
-ghost use Rattle.std.specs.Prelude.{◌≡◌, ◌<◌, ◌≤◌, ◌^◌, ◌++◌, [], ◌∷◌, length, OnOk};
+ghost use Rattle.std.specs.Prelude.{◌≡◌, ◌<◌, ◌≤◌, ◌^◌, ◌++◌, [], ◌∷◌, ℕ, List, length, IsSome, OnOk};
 ghost use Rattle.std.specs.Option.{ForSome, option_map};
 ghost use Rattle.std.specs.Int.{w16, w64, to_le_bytes};
 ghost use Rattle.causes.specs.Causes.{HasCause};
-ghost use Rattle.lane_format.specs.Lane.{emptied, extended, shut};
+ghost use Rattle.disk_core.specs.Crash.{Follows, LeavesOnly, NothingPending, Tears};
+ghost use Rattle.disk_core.specs.Device.{written};
+ghost use Rattle.lane_format.specs.Crash.{IsNotOpen, LeavesNow, NotOpenOrEmpty, OldOrNotOpen, TornFrom, WithOrWithout};
+ghost use Rattle.lane_format.specs.Lane.{IsLane, emptied, extended, frame_text, lane_text, shut};
 
 use disk_core::{Disk, Failed};
 
@@ -15,25 +18,43 @@ const OPEN: u8 = 1;
 /// Where the gate of a lane with no batch lies, behind the file's gate, the generation and the lane.
 pub(crate) const FIRST_GATE: u64 = 11;
 
+/// Writes these bytes and brings them to where a crash leaves them.
+fn put<D: Disk>(disk: &mut D, at: u64, bytes: &[u8]) -> Result<(), Failed>
+    requires { ForSome (D.content disk.old) (λ old. at ≤ length old) }
+    ensures written { OnOk result (D.content disk.new ≡ option_map (written at bytes.now) (D.content disk.old)) }
+    ensures told { IsSome (D.content disk.old) → IsSome (D.content disk.new) }
+    ensures durable { OnOk result (NothingPending (D.content disk.new) (D.may_leave disk.new)) }
+    ensures crash { Follows (Tears at bytes.now) (D.may_leave disk.old) (D.may_leave disk.new) }
+    ensures moments { LeavesOnly D.moment D.left_since disk.old disk.new (TornFrom (D.may_leave disk.old) at bytes.now) }
+    ensures cause { HasCause (D.faults disk.old) (D.faults disk.new) result }
+{
+    disk.write_at(at, bytes)?;
+    disk.sync()
+}
+
 /// Closes the file's gate.
 pub(crate) fn close<D: Disk>(disk: &mut D) -> Result<(), Failed>
     ensures shut { OnOk result (D.content disk.new ≡ option_map shut (D.content disk.old)) }
+    ensures told { IsSome (D.content disk.old) → IsSome (D.content disk.new) }
+    ensures durable { OnOk result (NothingPending (D.content disk.new) (D.may_leave disk.new)) }
+    ensures moments { LeavesOnly D.moment D.left_since disk.old disk.new (OldOrNotOpen D.may_leave disk.old) }
     ensures cause { HasCause (D.faults disk.old) (D.faults disk.new) result }
 {
-    disk.write_at(0, &[CLOSED])?;
-    disk.sync()
+    put(disk, 0, &[CLOSED])
 }
 
 /// Makes the file an open lane with no batch.
 pub(crate) fn reset<D: Disk>(disk: &mut D, generation: u64, lane: u16) -> Result<(), Failed>
     requires { ForSome (D.content disk.old) (λ bytes. 0 < length bytes) }
     ensures empty { OnOk result (D.content disk.new ≡ option_map (emptied generation lane) (D.content disk.old)) }
+    ensures told { IsSome (D.content disk.old) → IsSome (D.content disk.new) }
+    ensures durable { OnOk result (NothingPending (D.content disk.new) (D.may_leave disk.new)) }
+    ensures moments { LeavesNow D.content D.may_leave disk.old IsNotOpen
+        → LeavesOnly D.moment D.left_since disk.old disk.new (NotOpenOrEmpty generation lane) }
     ensures cause { HasCause (D.faults disk.old) (D.faults disk.new) result }
 {
-    disk.write_at(1, &header(generation, lane))?;
-    disk.sync()?;
-    disk.write_at(0, &[OPEN])?;
-    disk.sync()
+    put(disk, 1, &header(generation, lane))?;
+    put(disk, 0, &[OPEN])
 }
 
 /// What stands behind the gate of a lane with no batch: generation, lane and a closed gate.
@@ -50,10 +71,14 @@ pub(crate) fn append<D: Disk>(disk: &mut D, gate: u64, frame: &[u8]) -> Result<(
     requires inside { ForSome (D.content disk.old) (λ bytes. gate < length bytes) }
     requires near { gate ≤ 2 ^ 62 }
     ensures extended { OnOk result (D.content disk.new ≡ option_map (extended gate frame.now) (D.content disk.old)) }
+    ensures told { IsSome (D.content disk.old) → IsSome (D.content disk.new) }
+    ensures durable { OnOk result (NothingPending (D.content disk.new) (D.may_leave disk.new)) }
+    ensures moments { (generation lane : ℕ) (bodies : List (List ℕ)) (body : List ℕ)
+        → gate ≡ length (lane_text generation lane bodies) → frame.now ≡ frame_text body
+        → LeavesNow D.content D.may_leave disk.old (IsLane generation lane bodies)
+        → LeavesOnly D.moment D.left_since disk.old disk.new (WithOrWithout generation lane bodies body) }
     ensures cause { HasCause (D.faults disk.old) (D.faults disk.new) result }
 {
-    disk.write_at(gate + 1, frame)?;
-    disk.sync()?;
-    disk.write_at(gate, &[OPEN])?;
-    disk.sync()
+    put(disk, gate + 1, frame)?;
+    put(disk, gate, &[OPEN])
 }

@@ -1,4 +1,4 @@
-// The bytes of a lane file from outside, and the calls after a disk fault.
+// The bytes of a lane file from outside, the calls after a disk fault, and what a crash leaves then.
 use crate::{FileName, LaneFault, LaneWriter};
 use disk_core::MemDisk;
 use std::alloc::Global;
@@ -46,6 +46,39 @@ fn a_fault_is_kept_and_ten_change_calls_make_the_first_batch(rt: HostRuntime) ->
                 "at {failing}"
             );
             drop(writer.into_disk());
+        }
+    }
+    Ok(())
+}
+
+/// Whether these bytes are a file that isn't open, the empty lane, or the lane with the batch.
+fn is_whole(bytes: &[u8]) -> bool {
+    match bytes {
+        [1, 2, 0, 0, 0, 0, 0, 0, 0, 0, 0, gate, ..] => *gate != 1 || bytes == LANE.as_slice(),
+        [1, ..] => false,
+        _ => true,
+    }
+}
+
+#[test]
+fn a_crash_after_a_fault_leaves_the_batch_whole_or_none_of_it(rt: HostRuntime) -> Result<(), Fail> {
+    for failing in 1..12 {
+        for (choice, whole) in [
+            (b"".as_slice(), true),
+            (b"\0", false),
+            (b"\x01", true),
+            (b"\xff", false),
+        ] {
+            let mut writer = LaneWriter::adopt(disk(rt.alloc(), failing)?, 0);
+            let made = first_batch(&mut writer);
+            let torn = writer.into_disk();
+            let (least, most) = (torn.least_size(), torn.bytes().len() as u64);
+            let size = if whole { most } else { least };
+            let left = torn.crash(choice, size);
+            assert!(rt; is_whole(left.bytes()), "at {failing} with {choice:?}");
+            if made.is_ok() {
+                assert_eq!(rt; left.bytes(), LANE.as_slice());
+            }
         }
     }
     Ok(())

@@ -36,11 +36,13 @@ pub struct LaneWriter<D> {
 }
 
 impl<D: Disk> LaneWriter<D> {
-    ghost use Rattle.std.specs.Prelude.{◌≡◌, ◌⊎◌, ◌+◌, ◌%◌, ◌≤◌, ◌^◌, ◌++◌, [], ◌∷◌, ℕ, List, length, IsOk, OnOk, OnErr, MatchResult};
+    ghost use Rattle.std.specs.Prelude.{◌≡◌, ◌⊎◌, ◌+◌, ◌%◌, ◌≤◌, ◌^◌, ◌++◌, [], ◌∷◌, ℕ, List, length, IsOk, IsSome, OnOk, OnErr, MatchResult};
     ghost use Rattle.disk_core.specs.declared.store.FileName.{FileName};
     ghost use Rattle.std.specs.Option.{ForSome, option_map};
+    ghost use Rattle.disk_core.specs.Crash.{LeavesOnly};
+    ghost use Rattle.lane_format.specs.Crash.{IsNotOpen, LeavesNow, NotOpenOrEmpty, OldOrNotOpen, WithOrWithout};
     ghost use Rattle.lane_format.specs.Lane.{IsLane, body_of, lane_text, shut};
-    ghost use Rattle.lane_format.specs.Writer.{Holds, IsFailed, IsNear, IsShut, KeepsFault, even_file, disk_of, lane_of, stage_of};
+    ghost use Rattle.lane_format.specs.Writer.{Holds, IsFailed, IsNear, IsSettled, IsShut, KeepsFault, even_file, disk_of, lane_of, stage_of};
 
     /// Takes over a file of which nothing is known: it has to be closed first.
     pub fn adopt(disk: D, lane: u16) -> LaneWriter<D>
@@ -64,6 +66,10 @@ impl<D: Disk> LaneWriter<D> {
         ensures disk { disk_of result ≡ disk }
         ensures lane { lane_of result ≡ lane }
         ensures stage { stage_of result ≡ Stage.Open generation gate }
+
+        // Where every crash now leaves that lane, the writer is settled.
+        ensures settled { (bodies : List (List ℕ)) → gate ≡ length (lane_text generation lane bodies)
+            → LeavesNow D.content D.may_leave disk (IsLane generation lane bodies) → IsSettled D.content D.may_leave result generation bodies }
     {
         LaneWriter {
             disk,
@@ -90,6 +96,11 @@ impl<D: Disk> LaneWriter<D> {
         ensures shut { OnOk result (IsShut D.content self.new generation) }
         ensures content { OnOk result (D.content (disk_of self.new) ≡ option_map shut (D.content (disk_of self.old))) }
         ensures fault { KeepsFault D.faults self.old self.new result }
+
+        // A crash at any moment of the call, or after it, leaves what it might have left before, or a file that isn't open.
+        ensures moments { LeavesOnly D.moment D.left_since (disk_of self.old) (disk_of self.new) (OldOrNotOpen D.may_leave (disk_of self.old)) }
+        ensures crash { IsSome (D.content (disk_of self.old)) → LeavesNow D.content D.may_leave (disk_of self.new) (OldOrNotOpen D.may_leave (disk_of self.old)) }
+        ensures durable { OnOk result (IsSome (D.content (disk_of self.old)) → LeavesNow D.content D.may_leave (disk_of self.new) IsNotOpen) }
     {
         self.live()?;
         let done = steps::close(&mut self.disk);
@@ -104,6 +115,13 @@ impl<D: Disk> LaneWriter<D> {
         ensures empty { OnOk result (Holds D.content self.new generation []) }
         ensures stage { OnOk result (stage_of self.new ≡ Stage.Open generation 11) }
         ensures fault { KeepsFault D.faults self.old self.new result }
+
+        // A crash at any moment of the call, or after it, leaves a file that isn't open, or the empty lane.
+        ensures moments { LeavesNow D.content D.may_leave (disk_of self.old) IsNotOpen
+            → LeavesOnly D.moment D.left_since (disk_of self.old) (disk_of self.new) (NotOpenOrEmpty generation (lane_of self.old)) }
+        ensures crash { LeavesNow D.content D.may_leave (disk_of self.old) IsNotOpen
+            → LeavesNow D.content D.may_leave (disk_of self.new) (NotOpenOrEmpty generation (lane_of self.old)) }
+        ensures durable { OnOk result (IsSome (D.content (disk_of self.old)) → IsSettled D.content D.may_leave self.new generation []) }
     {
         self.live()?;
         let done = steps::reset(&mut self.disk, generation, self.lane);
@@ -126,6 +144,14 @@ impl<D: Disk> LaneWriter<D> {
         ensures stage { OnOk result ((generation gate : ℕ) → stage_of self.old ≡ Stage.Open generation gate
             → stage_of self.new ≡ Stage.Open generation (gate + length frame.old)) }
         ensures fault { KeepsFault D.faults self.old self.new result }
+
+        // A crash at any moment of the call, or after it, leaves the batches from before, with this one or without.
+        ensures moments { (generation : ℕ) (bodies : List (List ℕ)) → IsSettled D.content D.may_leave self.old generation bodies
+            → LeavesOnly D.moment D.left_since (disk_of self.old) (disk_of self.new) (WithOrWithout generation (lane_of self.old) bodies (body_of frame.old)) }
+        ensures crash { (generation : ℕ) (bodies : List (List ℕ)) → IsSettled D.content D.may_leave self.old generation bodies
+            → LeavesNow D.content D.may_leave (disk_of self.new) (WithOrWithout generation (lane_of self.old) bodies (body_of frame.old)) }
+        ensures durable { OnOk result ((generation : ℕ) (bodies : List (List ℕ)) → IsSettled D.content D.may_leave self.old generation bodies
+            → IsSettled D.content D.may_leave self.new generation (bodies ++ body_of frame.old ∷ [])) }
     {
         let (generation, gate) = match self.stage {
             Stage::Open { generation, gate } => (generation, gate),

@@ -1,6 +1,7 @@
 // Names of tables and columns, and texts.
 ghost use Rattle.std.specs.Prelude.{◌≡◌, length, IfOk, IsUtf8};
 ghost use Rattle.std.specs.Option.{SomeIff};
+ghost use Rattle.std.specs.String.{string_bytes};
 ghost use Rattle.row_types.specs.Text.{IsName, IsNameLen};
 
 use crate::OutOfMemory;
@@ -102,6 +103,13 @@ impl Text {
         Ok(Text {
             text: String::from_str(alloc, text)?,
         })
+    }
+
+    /// The text that the string is, without a copy.
+    pub fn from_string(text: String) -> Text
+        ensures { result ≡ string_bytes text }
+    {
+        Text { text }
     }
 
     /// Its text.

@@ -1,5 +1,5 @@
 -- What the batch of a pair is, read from its bytes.
-use Rattle.std.proofs.Common.{◌≡◌, ◌≢◌, ℕ, ◌+◌, ◌-◌, ◌*◌, ◌<◌, ◌≤◌, ◌^◌, ℤ, true, is_some, List, [], ◌∷◌, ◌++◌, length, map, take, drop, get_or, refl, sym, ◌∙◌, ap, subst, append_assoc, arith, inl, inr}
+use Rattle.std.proofs.Common.{◌≡◌, ◌≢◌, ℕ, ◌+◌, ◌-◌, ◌*◌, ◌<◌, ◌≤◌, ℤ, true, is_some, List, [], ◌∷◌, ◌++◌, length, map, take, drop, get_or, refl, sym, ◌∙◌, ap, subst, append_assoc, arith, inl, inr}
 use Rattle.std.specs.BTreeMap.{BTreeMap}
 use Rattle.std.specs.Int.{w32, w64, cast_signed, cast_unsigned, from_le_bytes, to_le_bytes}
 use Rattle.std.specs.List.{flat_map}
@@ -139,11 +139,11 @@ module _ (pairs : Pairs) (piece batch behind : List ℕ) (more : Pairs) (text : 
   -- the next batch was added to those before it
   pub goes_on : (table : BTreeMap ℤ ℤ) → length batch ≡ 21 → Adds front.More (pairs ++ more) batch table → (all : Pairs) × (piece ≡ batches_text all ++ behind) × IsMapOf table (pairs ++ all) × MayBeLogged (pairs ++ all)
   goes_on table whole adds = (
-      more ++ adds.more,
-      both_added table adds.more adds.behind adds.text ∙ ap (λ (l : List ℕ). batches_text (more ++ adds.more) ++ (l ++ behind)) (nothing_behind adds.behind adds.more adds.text adds.stands),
-      subst (IsMapOf table) (append_assoc pairs more adds.more) adds.table_is,
-      subst MayBeLogged (append_assoc pairs more adds.more) adds.logged,
-    )
+    more ++ adds.more,
+    both_added table adds.more adds.behind adds.text ∙ ap (λ (l : List ℕ). batches_text (more ++ adds.more) ++ (l ++ behind)) (nothing_behind adds.behind adds.more adds.text adds.stands),
+    subst (IsMapOf table) (append_assoc pairs more adds.more) adds.table_is,
+    subst MayBeLogged (append_assoc pairs more adds.more) adds.logged,
+  )
     where
       nothing_behind : (rest : List ℕ) (more' : Pairs) → batch ≡ batches_text more' ++ rest → length rest < 21 → rest ≡ []
       nothing_behind [] more' is short = refl

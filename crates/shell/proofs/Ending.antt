@@ -1,5 +1,5 @@
 -- How a run over a session ends.
-use Rattle.std.proofs.Common.{◌≡◌, ◌≢◌, inl, inr, ℕ, ◌-◌, ◌<◌, ◌≤◌, List, ◌++◌, length, map, take, replicate, Option, Some, Result, Ok, Err, IfErr, refl, sym, ◌∙◌, ap, subst}
+use Rattle.std.proofs.Common.{◌≡◌, inr, ℕ, ◌-◌, ◌<◌, List, ◌++◌, length, map, take, replicate, Option, Some, refl, sym, ◌∙◌, ap, subst}
 use Rattle.std.specs.Option.{ForSome}
 use Rattle.causes.specs.Causes.{Rose}
 use Rattle.disk_core.specs.declared.store.FileName.{FileName}
@@ -8,7 +8,7 @@ use Rattle.lane_format.specs.Writer.{disk_of, even_file}
 use Rattle.shell.specs.Keeping.{Keeps}
 use Rattle.shell.specs.Kv.{Pairs, pair_body, pairs_after_all, replies_to}
 use Rattle.shell.specs.Log.{BeginsWith, IsLogOf}
-use Rattle.shell.specs.Outcome.{Finishes, RunsShort, Runs, StopsAt}
+use Rattle.shell.specs.Outcome.{Runs, StopsAt}
 use Rattle.shell.specs.declared.end.End.{End}
 use Rattle.shell.specs.declared.end.End.TheVariants as end
 use Rattle.shell.specs.declared.reply.Reply.{Reply}
@@ -23,6 +23,17 @@ keeps_log content session pairs keeps bytes told = record {
   lane = subst (λ (l : ℕ). IsLane 2 l (map pair_body pairs) bytes) keeps.lane (keeps.file.file bytes told);
 }
 
+-- where a run stopped
+abbrev pub stops_there : (pairs : Pairs) (statements : List Statement) (shown : Option (List Reply)) (n : ℕ) (replies : List Reply) (word : Reply) → n < length statements → replies ≡ take n (replies_to pairs statements)
+    → shown ≡ Some (replies ++ replicate (length statements - n) word) → StopsAt pairs (Some statements) word shown
+stops_there pairs statements shown n replies word within are shown_is = record {
+  statements = statements;
+  session = refl;
+  place = n;
+  within = within;
+  replies = shown_is ∙ ap (λ (l : List Reply). Some (l ++ replicate (length statements - n) word)) are;
+}
+
 module _ {D : Type 0} (content : D → Option (List ℕ)) (faults : D → ℕ) (statements : List Statement) (disk : D) (session : Session D) (pairs : Pairs) (entry : ForSome (content disk) (BeginsWith pairs)) (shown : Option (List Reply)) (e : End) (now : D) (now_is : now ≡ disk_of session.writer) where
   pub run_done : e ≡ end.Done → shown ≡ Some (replies_to pairs statements) → Keeps content session (pairs_after_all pairs statements) → Runs content faults (Some statements) disk e shown now
   run_done is replies keeps =
@@ -30,25 +41,20 @@ module _ {D : Type 0} (content : D → Option (List ℕ)) (faults : D → ℕ) (
       (pairs, entry, record { replies = replies; kept = λ bytes told. keeps_log content session (pairs_after_all pairs statements) keeps bytes (ap content (sym now_is) ∙ told) })
 
   module _ (n : ℕ) (replies : List Reply) (within : n < length statements) (are : replies ≡ take n (replies_to pairs statements)) where
-    abbrev stops_there : (word : Reply) → shown ≡ Some (replies ++ replicate (length statements - n) word) → StopsAt pairs (Some statements) word shown
-    stops_there word shown_is = record {
-      statements = statements;
-      session = refl;
-      place = n;
-      within = within;
-      replies = shown_is ∙ ap (λ (l : List Reply). Some (l ++ replicate (length statements - n) word)) are;
-    }
-
     pub run_short : e ≡ end.OutOfMemory → shown ≡ Some (replies ++ replicate (length statements - n) StoppedMemory) → Keeps content session (pairs_after_all pairs (take n statements)) → Runs content faults (Some statements) disk e shown now
     run_short is shown_is keeps =
         subst (λ (x : End). Runs content faults (Some statements) disk x shown now) (sym is)
-        (inr (pairs, entry, record {
-          stops = stops_there StoppedMemory shown_is;
-          kept = λ bytes told. keeps_log content session (pairs_after_all pairs (take n statements)) keeps bytes (ap content (sym now_is) ∙ told);
-        }))
+        (inr (
+          pairs,
+          entry,
+          record {
+            stops = stops_there pairs statements shown n replies StoppedMemory within are shown_is;
+            kept = λ bytes told. keeps_log content session (pairs_after_all pairs (take n statements)) keeps bytes (ap content (sym now_is) ∙ told);
+          },
+        ))
 
     pub run_failed : (file : FileName) → e ≡ end.Disk file → shown ≡ Some (replies ++ replicate (length statements - n) Stopped) → file ≡ even_file 0 → Rose (faults disk) (faults (disk_of session.writer))
         → Runs content faults (Some statements) disk e shown now
     run_failed file is shown_is named rose =
         subst (λ (x : End). Runs content faults (Some statements) disk x shown now) (sym is)
-        (named, subst (λ (d : D). Rose (faults disk) (faults d)) (sym now_is) rose, inr (pairs, entry, stops_there Stopped shown_is))
+        (named, subst (λ (d : D). Rose (faults disk) (faults d)) (sym now_is) rose, inr (pairs, entry, stops_there pairs statements shown n replies Stopped within are shown_is))

@@ -1,12 +1,12 @@
 -- How far a log file is read once its next piece was.
-use Rattle.std.proofs.Common.{◌≡◌, ℕ, ◌+◌, ◌<◌, ◌≤◌, ℤ, List, [], ◌∷◌, ◌++◌, length, take, drop, Option, Some, IfSome, refl, sym, ◌∙◌, ap, subst, append_assoc, arith}
+use Rattle.std.proofs.Common.{◌≡◌, ℕ, ◌+◌, ◌<◌, ◌≤◌, ℤ, List, [], ◌++◌, length, take, drop, Option, Some, IfSome, sym, ◌∙◌, ap, subst, append_assoc, arith}
 use Rattle.std.specs.BTreeMap.{BTreeMap}
 use Rattle.std.specs.Option.{ForSome}
 use Rattle.std.proofs.lemmas.List.{drop_at, take-append-drop, take_all, length-append, append-nil}
 use Rattle.lane_format.specs.Lane.{header_text}
 use Rattle.shell.specs.Keeping.{IsMapOf}
 use Rattle.shell.specs.Kv.{Pairs}
-use Rattle.shell.specs.Log.{Breaks, IsDamaged, IsLogOf, MayBeLogged, gate_place, log_text}
+use Rattle.shell.specs.Log.{Breaks, IsLogOf, MayBeLogged, gate_place, log_text}
 use Rattle.shell.specs.Log.{BreaksOff}
 use Rattle.shell.specs.Opening.{Adds, Comes, HasClosedGate, Reached, Stands, batches_text}
 use Rattle.shell.specs.declared.reading.Front.{Front}

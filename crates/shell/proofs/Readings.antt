@@ -1,18 +1,18 @@
 -- A log file has at most one reading.
-use Rattle.std.proofs.Common.{◌≡◌, ◌≢◌, ◌⊎◌, inl, inr, ℕ, ◌+◌, ◌*◌, ◌<◌, ◌≤◌, ℤ, true, false, is_some, Some, None, List, [], ◌∷◌, ◌++◌, length, map, take, drop, get_or, FitsSigned, Fits, refl, sym, ◌∙◌, ap, subst, append_assoc, arith}
+use Rattle.std.proofs.Common.{◌≡◌, ◌≢◌, ◌⊎◌, inl, inr, ℕ, ◌+◌, ◌≤◌, ℤ, true, false, is_some, Some, None, List, [], ◌∷◌, ◌++◌, length, take, drop, get_or, FitsSigned, Fits, refl, sym, ◌∙◌, ap, subst, append_assoc, arith}
 use Rattle.std.specs.Int.{w32, w64, cast_signed, cast_unsigned, to_le_bytes, from_le_bytes}
 use Rattle.std.specs.List.{AllByRecursion}
-use Rattle.std.specs.Ordering.{int_eq}
 use Rattle.std.proofs.Math.Facts.{Fits-of_z}
 use Rattle.std.proofs.lemmas.Int.{to_z-of_z}
 use Rattle.std.proofs.lemmas.Nat.{from_le_bytes-to_le_bytes_8}
 use Rattle.std.proofs.lemmas.List.{append_cancel_left, take_at, drop_at, length-append, append-nil}
-use Rattle.lane_format.specs.Lane.{IsLane, batch_text, header_text}
+use Rattle.lane_format.specs.Lane.{batch_text, header_text}
 use Rattle.shell.specs.Kv.{Pairs, pair_body, value_of}
-use Rattle.shell.specs.Log.{Breaks, FitsPair, IsDamaged, IsLogOf, IsOpen, LaneRead, MayBeLogged, NoKeyTwice, gate_place, lane_reads, last_end, log_text}
+use Rattle.lane_format.specs.Crash.{IsOpen}
+use Rattle.shell.specs.Log.{Breaks, FitsPair, IsDamaged, IsLogOf, LaneRead, MayBeLogged, NoKeyTwice, gate_place, lane_reads, last_end, log_text}
 use Rattle.shell.specs.Log.{Damaged, Holding, NotOpen, BreaksOff, OtherHead, Short, CutShort, NoGate, OtherLength, SameKey, TooLate}
 use Rattle.shell.specs.Opening.{batches_text}
-use Rattle.shell.proofs.Batches.{length-batch, length-batches, length-header, length-log, log_text-append}
+use Rattle.shell.proofs.Batches.{length-batch, length-header, length-log, log_text-append}
 use Rattle.shell.proofs.Pairs.{eq_cases, logged-push}
 
 -- ---- a batch tells its pair

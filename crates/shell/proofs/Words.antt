@@ -65,3 +65,12 @@ map_ok P Q (Err e) f p = tt
 pub at_this : {T E : Type 0} (P : E → Type 0) (r : Result T E) (e : E) → IsErrAnd r (λ x. x ≡ e) → P e → IfErr r P
 at_this P (Ok x) e is p = tt
 at_this P (Err x) e is p = subst P (sym is) p
+
+-- what follows at Ok from two facts, and at Err
+pub both_ok : {T E : Type 0} (P Q R : T → Type 0) (r : Result T E) → ((x : T) → P x → Q x → R x) → IfOk r P → IfOk r Q → IfOk r R
+both_ok P Q R (Ok x) f p q = f x p q
+both_ok P Q R (Err e) f p q = tt
+
+pub both_err : {T E : Type 0} (P Q R : E → Type 0) (r : Result T E) → ((e : E) → P e → Q e → R e) → IfErr r P → IfErr r Q → IfErr r R
+both_err P Q R (Ok x) f p q = tt
+both_err P Q R (Err e) f p q = f e p q

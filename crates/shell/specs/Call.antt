@@ -9,6 +9,7 @@ use Rattle.shell.specs.Kv.{Pairs, pairs_after_all, replies_to}
 use Rattle.shell.specs.Outcome.{Runs}
 use Rattle.shell.specs.Script.{IsScript, statements_in}
 use Rattle.shell.specs.Shown.{Shows}
+use Rattle.shell.specs.Survival.{IsQuiet, Survives}
 use Rattle.shell.specs.Text.{shown_text}
 use Rattle.shell.specs.declared.statement.Statement.{Statement}
 use Rattle.shell.specs.declared.reply.Reply.{Reply}
@@ -62,13 +63,20 @@ abbrev pub Explains : List (List ℕ) → Option Content → ℕ → Option Cont
 Explains words before fell after risen content faults disk end shown now =
     WrongWords words before after disk end shown now ⊎ (Unread words before fell after risen disk end shown now ⊎ ScriptRan words before after content faults disk end shown now)
 
--- A call ended in one of these ways and for this reason, and that is what it showed.
+-- Nothing was done to the log file, or a script was run over it, and that is what a crash leaves if nothing was pending at first.
+abbrev pub Lasts : Option Content → {D : Type 0} → (D → Option (List ℕ)) → (D → List ℕ → Type 0) → (D → ℕ) → (D → ℕ → List ℕ → Type 0) → D → End → Option (List Reply) → D → Type 0
+Lasts before content may_leave moment left_since disk end shown now =
+    (now ≡ disk) ⊎ ((script : Option (List Statement)) × ForSome before (λ content. IsScript (take read_limit content.left) script)
+    × ((bytes : List ℕ) → IsQuiet content may_leave disk bytes → Survives may_leave moment left_since bytes script disk end shown now))
+
+-- A call ended in one of these ways and for this reason, that is what it showed, and that is what a crash leaves.
 pub record Answers {D : Type 0} (words : List (List ℕ)) (before : Option Content) (fell : ℕ) (after : Option Content) (risen : ℕ) (start : Option (List ℕ)) (fell' : ℕ) (taken : Option (List ℕ)) (risen' : ℕ)
-    (content : D → Option (List ℕ)) (faults : D → ℕ) (disk now : D) (status : ℕ) : Type 0 where
+    (content : D → Option (List ℕ)) (faults : D → ℕ) (may_leave : D → List ℕ → Type 0) (moment : D → ℕ) (left_since : D → ℕ → List ℕ → Type 0) (disk now : D) (status : ℕ) : Type 0 where
   pub end : End
   pub shown : Option (List Reply)
   pub why : Explains words before fell after risen content faults disk end shown now
   pub shows : Shows start fell' shown end status taken risen'
+  pub lasts : Lasts before content may_leave moment left_since disk end shown now
 
 -- Status 0: the words ask for a run, all of a script was read, the sink took the replies of its statements over the pairs that the log file began with, in order, and the file reads as the pairs that they leave.
 pub record AllDone {D : Type 0} (words : List (List ℕ)) (before after : Option Content) (start taken : Option (List ℕ)) (content : D → Option (List ℕ)) (disk now : D) : Type 0 where

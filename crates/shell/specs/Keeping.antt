@@ -2,10 +2,11 @@
 use Rattle.std.specs.Prelude.{◌≡◌, ℕ, ℤ, List, length, map, Option}
 use Rattle.std.specs.Ordering.{int_cmp}
 use Rattle.std.specs.BTreeMap.{BTreeMap, get, btree_map_len}
-use Rattle.lane_format.specs.Writer.{Holds, lane_of, stage_of}
+use Rattle.lane_format.specs.Crash.{LeavesNow}
+use Rattle.lane_format.specs.Writer.{Holds, disk_of, lane_of, stage_of}
 use Rattle.lane_format.specs.declared.writer.Stage.TheVariants.{Open}
 use Rattle.shell.specs.Kv.{Pairs, pair_body, value_of}
-use Rattle.shell.specs.Log.{MayBeLogged, gate_place}
+use Rattle.shell.specs.Log.{IsLogOf, MayBeLogged, gate_place}
 use Rattle.shell.specs.declared.session.Session.{Session}
 
 -- the map answers as the pairs do
@@ -20,3 +21,8 @@ pub record Keeps {D : Type 0} (content : D → Option (List ℕ)) (session : Ses
   pub lane : lane_of session.writer ≡ 0
   pub stage : stage_of session.writer ≡ Open 2 (gate_place (length pairs))
   pub file : Holds content session.writer 2 (map pair_body pairs)
+
+-- It has them also if the machine stops now: every crash leaves the log of these pairs.
+pub record Secures {D : Type 0} (content : D → Option (List ℕ)) (may_leave : D → List ℕ → Type 0) (session : Session D) (pairs : Pairs) : Type 0 where
+  pub keeps : Keeps content session pairs
+  pub crash : LeavesNow content may_leave (disk_of session.writer) (IsLogOf pairs)

@@ -11,3 +11,4 @@ pub mod Shown
 pub mod Call
 pub mod Files
 pub mod Opening
+pub mod Survival

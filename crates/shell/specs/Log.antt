@@ -1,13 +1,10 @@
 -- The log file of the pairs: which pairs it may hold, and what its bytes read as.
-use Rattle.std.specs.Prelude.{◌≡◌, ◌≢◌, ◌⊎◌, ℕ, ◌+◌, ◌*◌, ◌<◌, ◌≤◌, ℤ, true, FitsSigned, ⊤, List, [], ◌∷◌, ◌++◌, length, map, take, slice_index, is_some, None}
+use Rattle.std.specs.Prelude.{◌≡◌, ◌≢◌, ◌⊎◌, ℕ, ◌+◌, ◌*◌, ◌<◌, ◌≤◌, ℤ, true, FitsSigned, ⊤, List, [], ◌∷◌, ◌++◌, length, map, take, is_some, None}
 use Rattle.std.specs.List.{AllByRecursion}
 use Rattle.std.specs.Int.{w32, w64, to_le_bytes}
+use Rattle.lane_format.specs.Crash.{IsNotOpen, IsOpen}
 use Rattle.lane_format.specs.Lane.{IsLane, batch_text, header_text, lane_text}
 use Rattle.shell.specs.Kv.{Pairs, pair_body, value_of}
-
--- its first byte is an open gate
-abbrev pub IsOpen : List ℕ → Type 0
-IsOpen bytes = slice_index bytes 0 ≡ 1
 
 -- the key and the value have 64 bits
 abbrev pub FitsPair : ℤ × ℤ → Type 0
@@ -62,7 +59,7 @@ pub data LaneRead : Type 0 where
   Holding : (pairs : Pairs) → LaneRead
 
 abbrev pub lane_reads : List ℕ → LaneRead → Type 0
-lane_reads bytes NotOpen = ¬ (IsOpen bytes)
+lane_reads bytes NotOpen = IsNotOpen bytes
 lane_reads bytes Damaged = IsDamaged bytes
 lane_reads bytes (Holding pairs) = IsLogOf pairs bytes
 

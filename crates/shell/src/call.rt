@@ -3,7 +3,7 @@ ghost use Rattle.std.specs.Option.{ForSome};
 ghost use Rattle.causes.specs.Causes.{Rose};
 ghost use Rattle.shell.specs.Log.{Damaged, lane_reads};
 ghost use Rattle.shell.specs.declared.statement.Statement.{Statement as Line};
-ghost use Rattle.shell.specs.Call.{AllDone, Answers, Explains, IsRun, NamesFolder, NoScript};
+ghost use Rattle.shell.specs.Call.{AllDone, Answers, Explains, IsRun, Lasts, NamesFolder, NoScript};
 ghost use Rattle.shell.specs.Files.{KeepsOthers, log_file};
 ghost use Rattle.shell.specs.Input.{WasRead, read_limit};
 ghost use Rattle.shell.specs.Script.{IsScript};
@@ -50,7 +50,7 @@ pub fn ptime<S: Source, K: Sink, D: Disk>(
 ) -> Ended<D>
     requires lane { length store.lanes.items ≡ 1 }
     ensures answers { Answers words.now (S.content source.old) (S.faults source.old) (S.content source.new) (S.faults source.new) (K.taken sink.old) (K.faults sink.old) (K.taken sink.new) (K.faults sink.new)
-        D.content D.faults (log_file store) (log_file result.store) result.status }
+        D.content D.faults D.may_leave D.moment D.left_since (log_file store) (log_file result.store) result.status }
     ensures done { result.status ≡ 0 → AllDone words.now (S.content source.old) (S.content source.new) (K.taken sink.old) (K.taken sink.new) D.content (log_file store) (log_file result.store) }
     ensures usage { (result.status ≡ 2) ↔ ¬ (IsRun words.now) }
     ensures disk { result.status ≡ 4 → Rose (D.faults (log_file store)) (D.faults (log_file result.store)) }
@@ -79,7 +79,8 @@ pub fn ptime<S: Source, K: Sink, D: Disk>(
 
 /// Reads the script and runs it over the log file, where the words ask for that.
 fn call<S: Source, D: Disk>(alloc: Global, words: &[Word], source: &mut S, disk: D) -> (D, Outcome)
-    ensures { Explains words.now (S.content source.old) (S.faults source.old) (S.content source.new) (S.faults source.new) D.content D.faults disk result.1.end (shown_of result.1) result.0 }
+    ensures explains { Explains words.now (S.content source.old) (S.faults source.old) (S.content source.new) (S.faults source.new) D.content D.faults disk result.1.end (shown_of result.1) result.0 }
+    ensures lasts { Lasts (S.content source.old) D.content D.may_leave D.moment D.left_since disk result.1.end (shown_of result.1) result.0 }
 {
     if !is_run(words) {
         return (disk, Outcome::alone(End::Usage));

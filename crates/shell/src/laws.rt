@@ -1,5 +1,5 @@
 // What holds of every log file, as functions that do nothing: each contract is the law.
-ghost use Rattle.std.specs.Prelude.{◌≡◌, ◌≢◌, ◌+◌, ◌≤◌, ℕ, ℤ, List, [], ◌∷◌, ◌++◌, length, None};
+ghost use Rattle.std.specs.Prelude.{◌≡◌, ◌≢◌, ◌+◌, ◌<◌, ◌≤◌, ℕ, ℤ, List, [], ◌∷◌, ◌++◌, length, get_or, None};
 ghost use Rattle.lane_format.specs.Lane.{batch_text};
 ghost use Rattle.shell.specs.Kv.{Pairs, pair_body, value_of};
 ghost use Rattle.shell.specs.Log.{FitsPair, Holding, LaneRead, MayBeLogged, gate_place, lane_reads, last_end, log_text};
@@ -13,4 +13,9 @@ pub fn one_reading()
 pub fn reads_what_was_forced()
     ensures { (pairs : Pairs) (pair : ℤ × ℤ) (gate : ℕ) (rest : List ℕ) → MayBeLogged pairs → FitsPair pair → value_of pairs pair.0 ≡ None → gate_place (length pairs + 1) ≤ last_end → gate ≢ 1
         → lane_reads (log_text pairs ++ batch_text (pair_body pair) ++ gate ∷ rest) (Holding (pairs ++ pair ∷ [])) }
+{}
+
+/// A file of bytes has a reading.
+pub fn some_reading()
+    ensures { (bytes : List ℕ) → ((i : ℕ) → get_or bytes i 0 < 256) → (read : LaneRead) × lane_reads bytes read }
 {}

@@ -20,6 +20,6 @@ mod tests;
 
 pub use call::{Ended, is_run, ptime};
 pub use end::End;
-pub use laws::{one_reading, reads_what_was_forced};
+pub use laws::{one_reading, reads_what_was_forced, some_reading};
 pub use reply::Reply;
 pub use statement::Statement;

@@ -9,8 +9,10 @@ ghost use Rattle.lane_format.specs.Lane.{header_text};
 ghost use Rattle.lane_format.specs.Writer.{even_file};
 ghost use Rattle.shell.specs.Keeping.{IsMapOf};
 ghost use Rattle.shell.specs.Kv.{Pairs};
-ghost use Rattle.shell.specs.Log.{IsOpen, MayBeLogged};
+ghost use Rattle.lane_format.specs.Crash.{IsOpen};
+ghost use Rattle.shell.specs.Log.{MayBeLogged};
 ghost use Rattle.shell.specs.Opening.{Adds, HasClosedGate, IsFound, Reached};
+ghost use Rattle.shell.specs.Survival.{LeavesAsWas};
 
 use crate::log::{BATCH, HEAD, LAST_END, OPEN, gate_place};
 use crate::stop::Stop;
@@ -51,6 +53,7 @@ const LENGTH: &[u8] = &[16, 0, 0, 0];
 pub(crate) fn read_log<D: Disk>(alloc: Global, disk: &mut D) -> Result<Found, Stop>
     ensures found { IfOk result (IsFound (D.content disk.old)) }
     ensures same { D.content disk.new ≡ D.content disk.old }
+    ensures crash { LeavesAsWas D.may_leave D.moment D.left_since disk.old disk.new }
     ensures later { D.faults disk.old ≤ D.faults disk.new }
     ensures cause { IfErr result (λ stop. (file : FileName) → stop ≡ Stop.Disk file → (file ≡ even_file 0) × Rose (D.faults disk.old) (D.faults disk.new)) }
 {
@@ -69,6 +72,7 @@ fn has_open_gate<D: Disk>(disk: &mut D, size: u64) -> Result<bool, Failed>
     requires { ForSome (D.content disk.old) (λ bytes. size ≡ length bytes) }
     ensures open { IfOk result (λ is_open. ForSome (D.content disk.old) (λ bytes. IsTrue is_open ↔ IsOpen bytes)) }
     ensures same { D.content disk.new ≡ D.content disk.old }
+    ensures crash { LeavesAsWas D.may_leave D.moment D.left_since disk.old disk.new }
     ensures cause { HasCause (D.faults disk.old) (D.faults disk.new) result }
 {
     if size == 0 {
@@ -84,6 +88,7 @@ fn has_header<D: Disk>(disk: &mut D) -> Result<bool, Failed>
     requires { ForSome (D.content disk.old) (λ bytes. 12 ≤ length bytes) }
     ensures header { IfOk result (λ has. ForSome (D.content disk.old) (λ bytes. IsTrue has ↔ (take 11 bytes ≡ header_text 2 0))) }
     ensures same { D.content disk.new ≡ D.content disk.old }
+    ensures crash { LeavesAsWas D.may_leave D.moment D.left_since disk.old disk.new }
     ensures cause { HasCause (D.faults disk.old) (D.faults disk.new) result }
 {
     let mut header = [0; HEAD];
@@ -98,6 +103,7 @@ fn read_pairs<D: Disk>(alloc: Global, disk: &mut D, size: u64) -> Result<Found, 
     requires header { ForSome (D.content disk.old) (λ bytes. take 11 bytes ≡ header_text 2 0) }
     ensures found { IfOk result (IsFound (D.content disk.old)) }
     ensures same { D.content disk.new ≡ D.content disk.old }
+    ensures crash { LeavesAsWas D.may_leave D.moment D.left_since disk.old disk.new }
     ensures later { D.faults disk.old ≤ D.faults disk.new }
     ensures cause { IfErr result (λ stop. (file : FileName) → stop ≡ Stop.Disk file → (file ≡ even_file 0) × Rose (D.faults disk.old) (D.faults disk.new)) }
 {
@@ -125,6 +131,7 @@ fn read_piece<D: Disk>(
     ensures front { IfOk result (λ front. Reached (D.content disk.old) size front pairs.new) }
     ensures more { IfOk result (λ front. front ≡ Front.More → btree_map_len pairs.old < btree_map_len pairs.new) }
     ensures same { D.content disk.new ≡ D.content disk.old }
+    ensures crash { LeavesAsWas D.may_leave D.moment D.left_since disk.old disk.new }
     ensures later { D.faults disk.old ≤ D.faults disk.new }
     ensures cause { IfErr result (λ stop. (file : FileName) → stop ≡ Stop.Disk file → (file ≡ even_file 0) × Rose (D.faults disk.old) (D.faults disk.new)) }
 {
@@ -133,7 +140,11 @@ fn read_piece<D: Disk>(
     let piece = &mut room[..len];
     disk.read_at(at, piece)?;
     if len < BATCH {
-        return Ok(if ends(piece) { Front::Ends } else { Front::Breaks });
+        return Ok(if ends(piece) {
+            Front::Ends
+        } else {
+            Front::Breaks
+        });
     }
     add_batches(pairs, piece)
 }

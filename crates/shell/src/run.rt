@@ -1,5 +1,5 @@
 // Runs a script over the log file.
-ghost use Rattle.std.specs.Prelude.{◌≡◌, ◌+◌, ◌-◌, ◌<◌, ◌≤◌, [], ◌++◌, length, take, replicate, List, Some, IfErr, OnOk, OnErr, vec_len, vec_capacity};
+ghost use Rattle.std.specs.Prelude.{◌≡◌, ◌+◌, ◌-◌, ◌<◌, ◌≤◌, [], ◌++◌, length, take, replicate, ℕ, List, Some, IfErr, OnOk, OnErr, vec_len, vec_capacity};
 ghost use Rattle.std.specs.Option.{ForSome};
 ghost use Rattle.shell.specs.Log.{BeginsWith};
 ghost use Rattle.shell.specs.Outcome.{Runs};
@@ -9,7 +9,9 @@ ghost use Rattle.causes.specs.Causes.{Rose};
 ghost use Rattle.disk_core.specs.declared.store.FileName.{FileName};
 ghost use Rattle.lane_format.specs.Writer.{disk_of, even_file};
 ghost use Rattle.shell.specs.Kv.{Pairs, pairs_after_all, replies_to};
-ghost use Rattle.shell.specs.Keeping.{Keeps};
+ghost use Rattle.shell.specs.Keeping.{Keeps, Secures};
+ghost use Rattle.shell.specs.Survival.{IsQuiet, Outlasts, Survives};
+ghost use Rattle.disk_core.specs.Crash.{LeavesOnly};
 
 use crate::outcome::Outcome;
 use crate::script::Script;
@@ -37,6 +39,12 @@ fn answer_all<D: Disk>(
     ensures disk { IfErr result (λ stop. (file : FileName) → stop ≡ Stop.Disk file
         → (file ≡ even_file 0) × Rose (D.faults (disk_of session.old.writer)) (D.faults (disk_of session.new.writer))) }
     ensures room { length statements.now ≤ vec_capacity replies.new }
+    ensures outlasts { OnOk result ((pairs : Pairs) → Secures D.content D.may_leave session.old pairs
+        → Outlasts D.may_leave D.moment D.left_since pairs statements.now (length statements.now) (length statements.now) (disk_of session.old.writer) (disk_of session.new.writer)) }
+    ensures stopped { OnErr result ((pairs : Pairs) → Secures D.content D.may_leave session.old pairs
+        → Outlasts D.may_leave D.moment D.left_since pairs statements.now (vec_len replies.new) (vec_len replies.new + 1) (disk_of session.old.writer) (disk_of session.new.writer)) }
+    ensures short { IfErr result (λ stop. stop ≡ Stop.OutOfMemory → (pairs : Pairs) → Secures D.content D.may_leave session.old pairs
+        → Outlasts D.may_leave D.moment D.left_since pairs statements.now (vec_len replies.new) (vec_len replies.new) (disk_of session.old.writer) (disk_of session.new.writer)) }
 {
     for statement in statements {
         let reply = session.answer(statement)?;
@@ -67,6 +75,8 @@ fn run_session<D: Disk>(
     requires room { length statements.now ≤ vec_capacity replies }
     ensures runs { (pairs : Pairs) (disk : D) → Keeps D.content session pairs → ForSome (D.content disk) (BeginsWith pairs) → D.faults disk ≤ D.faults (disk_of session.writer)
         → Runs D.content D.faults (Some statements.now) disk result.1.end (shown_of result.1) result.0 }
+    ensures survives { (pairs : Pairs) (disk : D) (bytes : List ℕ) → Secures D.content D.may_leave session pairs → BeginsWith pairs bytes → LeavesOnly D.moment D.left_since disk (disk_of session.writer) (BeginsWith pairs)
+        → Survives D.may_leave D.moment D.left_since bytes (Some statements.now) disk result.1.end (shown_of result.1) result.0 }
 {
     match answer_all(&mut session, statements, &mut replies) {
         Ok(()) => end_session(session, replies, End::Done),
@@ -93,7 +103,9 @@ fn end_session<D: Disk>(session: Session<D>, replies: Vec<Reply>, end: End) -> (
 
 /// Runs a script over the log file. The memory of its replies is found before the file is touched.
 pub(crate) fn run_script<D: Disk>(alloc: Global, script: Script, disk: D) -> (D, Outcome)
-    ensures { Runs D.content D.faults (script_of script) disk result.1.end (shown_of result.1) result.0 }
+    ensures runs { Runs D.content D.faults (script_of script) disk result.1.end (shown_of result.1) result.0 }
+    ensures survives { (bytes : List ℕ) → IsQuiet D.content D.may_leave disk bytes
+        → Survives D.may_leave D.moment D.left_since bytes (script_of script) disk result.1.end (shown_of result.1) result.0 }
 {
     let statements = match &script.session {
         Some(statements) => statements.len(),

@@ -1,9 +1,14 @@
-use Rattle.std.proofs.Common.{◌≡◌, ◌∷◌, [], ◌++◌, length, ◌<◌, ◌∙◌, ap, subst}
+use Rattle.std.proofs.Common.{◌≡◌, ◌∷◌, [], ◌++◌, length, ◌<◌, ◌∙◌, inl, ap, subst, arith, refl}
+use Rattle.std.proofs.lemmas.Result.{on_ok_weaker}
 use Rattle.std.specs.Option.{option_map}
 use Rattle.std.specs.Int.{w16, w64, to_le_bytes}
 use Rattle.disk_core.specs.Device.{written}
+use Rattle.disk_core.proofs.Moments.{joined, weaker}
 use Rattle.lane_format.specs.Lane.{emptied}
-use Rattle.lane_format.proofs.Told.{changed_twice, at_ok}
+use Rattle.lane_format.specs.Crash.{NotOpenOrEmpty, TornFrom}
+use Rattle.lane_format.proofs.Crash.{after_header, no_shorter, opened_empty, opened_or_old}
+use Rattle.lane_format.proofs.Left.{only_written, some_of}
+use Rattle.lane_format.proofs.Told.{changed_twice}
 use Rattle.lane_format.proofs.Writes.{header_then_gate}
 use Rattle.lane_format.proofs.steps.reset.Goals as goal
 
@@ -12,7 +17,25 @@ returns-clause-empty g c =
     let content = g.D.Disk.content in
     let start = content c.args.disk.now in
     let behind = to_le_bytes w64 c.args.generation ++ to_le_bytes w16 c.args.lane ++ 0 ∷ [] in
-    let header : content c.write_at.new.self ≡ option_map (written 1 behind) start = subst (λ b. content c.write_at.new.self ≡ option_map (written 1 b) start) c.header.ensures c.in_ok-write_at.ensures.written in
-    let gate : content c.write_at-2.new.self ≡ option_map (written 0 (1 ∷ [])) (content c.sync.new.self) = c.in_ok-write_at-2.ensures.written in
+    let header : content c.put.new.disk ≡ option_map (written 1 behind) start = subst (λ b. content c.put.new.disk ≡ option_map (written 1 b) start) c.header.ensures c.in_ok-put.ensures.written in
     let both = changed_twice (written 1 behind) (written 0 (1 ∷ [])) (emptied c.args.generation c.args.lane) start (λ bytes. 0 < length bytes) c.requires (header_then_gate c.args.generation c.args.lane) in
-    at_ok c.sync-2.result (c.sync-2.ensures.same ∙ gate ∙ ap (option_map (written 0 (1 ∷ []))) (c.sync.ensures.same ∙ header) ∙ both)
+    on_ok_weaker c.put-2.result (λ gate. gate ∙ ap (option_map (written 0 (1 ∷ []))) header ∙ both) c.put-2.ensures.written
+
+pub returns-clause-moments : goal.returns-clause-moments
+returns-clause-moments g c = λ closed.
+    let D = g.D.Disk in
+    let old = c.args.disk.now in
+    let mid = c.put.new.disk in
+    let header = c.header.result in
+    let P = NotOpenOrEmpty c.args.generation c.args.lane in
+    let first = weaker D.moment D.left_since old mid (TornFrom (D.may_leave old) 1 header) P (λ image torn. inl (after_header (D.may_leave old) header closed.each image torn)) c.put.ensures.moments in
+    let bytes = some_of (D.content old) closed.told in
+    let file = written 1 header bytes.0 in
+    let told = c.in_ok-put.ensures.written ∙ ap (option_map (written 1 header)) bytes.1 in
+    let only = only_written 1 header bytes.0 (D.content old) (D.content mid) (D.may_leave mid) bytes.1 c.in_ok-put.ensures.written c.in_ok-put.ensures.durable in
+    let some : 0 < length bytes.0 = c.requires bytes.0 bytes.1 in
+    let inside : 0 < length file = omega (arith, some, no_shorter 1 header bytes.0) in
+    let shut = after_header (D.may_leave old) header closed.each file (c.put.ensures.crash file (g.met.D.Disk.leaves_as_read mid file told)) in
+    let second = weaker D.moment D.left_since mid c.put-2.new.disk (TornFrom (D.may_leave mid) 0 (1 ∷ [])) P
+    (λ image torn. opened_empty c.args.generation c.args.lane header file bytes.0 image c.header.ensures refl some shut (opened_or_old 0 file (D.may_leave mid) inside only image torn)) c.put-2.ensures.moments in
+    joined D.moment D.left_since old mid c.put-2.new.disk P first second

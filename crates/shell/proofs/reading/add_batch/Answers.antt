@@ -1,12 +1,11 @@
-use Rattle.std.proofs.Common.{rules, ◌≡◌, ◌≢◌, ℕ, ◌+◌, ◌≤◌, ◌++◌, List, [], ◌∷◌, ℤ, length, take, drop, true, false, not, cond, is_some, Some, int_cmp, w64, refl, sym, ◌∙◌, ap, subst, arith}
+use Rattle.std.proofs.Common.{◌≡◌, ◌+◌, ◌≤◌, ℤ, length, take, true, false, cond, is_some, Some, int_cmp, w64, sym, ◌∙◌, ap, arith}
 use Rattle.std.specs.BTreeMap.{get}
 use Rattle.std.specs.Int.{w32, to_le_bytes}
 use Rattle.std.specs.Str.{bytes_eq}
 use Rattle.std.specs.Ordering.{int_eq}
 use Rattle.std.proofs.lemmas.Int.{to_z-of_z}
 use Rattle.std.proofs.lemmas.Slice.Eq.{bytes_eq-Decides}
-use Rattle.lane_format.specs.Lane.{batch_text}
-use Rattle.shell.specs.Kv.{pair_body, value_of}
+use Rattle.shell.specs.Kv.{value_of}
 use Rattle.shell.specs.Log.{gate_place, last_end}
 use Rattle.shell.proofs.Batches.{batch_read, gate_open, none_added, one_added, other_length, same_key, tail_whole, too_late}
 use Rattle.shell.proofs.Pairs.{logged-push, map-push, none_there}

@@ -1,9 +1,8 @@
-use Rattle.std.proofs.Common.{◌≡◌, ◌≢◌, ℕ, ◌++◌, List, length, take, drop, sym, ◌∙◌, ap, subst, arith}
+use Rattle.std.proofs.Common.{◌≡◌, ℕ, ◌++◌, List, take, drop, sym, ◌∙◌, ap, subst}
 use Rattle.std.proofs.lemmas.List.{take-append-drop}
 use Rattle.shell.specs.Opening.{Adds, batches_text}
 use Rattle.shell.proofs.Batches.{goes_on, stops}
 use Rattle.shell.specs.declared.reading.Front.{Front}
-use Rattle.shell.specs.declared.reading.Front.TheVariants.{More}
 use Rattle.shell.proofs.reading.add_batches.Goals as goal
 
 rest_is : (rest batch behind : List ℕ) → batch ≡ take 21 rest → behind ≡ drop 21 rest → rest ≡ batch ++ behind

@@ -1,4 +1,4 @@
-use Rattle.std.proofs.Common.{◌≡◌, ℕ, ◌<◌, List, ℤ, get_or, w64, ◌∙◌, ap, arith}
+use Rattle.std.proofs.Common.{◌≡◌, ℕ, ◌<◌, ℤ, get_or, w64, ◌∙◌, ap, arith}
 use Rattle.std.specs.Int.{cast_signed, cast_unsigned, from_le_bytes, to_le_bytes}
 use Rattle.shell.proofs.Batches.{number_again, number_bytes}
 use Rattle.shell.proofs.reading.number.Goals as goal

@@ -1,7 +1,8 @@
-use Rattle.std.proofs.Common.{rules, ◌≡◌, ℕ, List, [], ◌≤◌, length, refl, sym, ◌∙◌, ap, subst, arith}
-use Rattle.shell.specs.Opening.{Comes, Reached}
+use Rattle.std.proofs.Common.{ℕ, List, Option, refl, sym, ◌∙◌, subst, arith}
+use Rattle.shell.specs.Opening.{Reached}
 use Rattle.shell.specs.declared.reading.Front.{Front}
 use Rattle.shell.specs.declared.reading.Front.TheVariants as front
+use Rattle.shell.proofs.AsWas.{read_on, unread}
 use Rattle.shell.proofs.Pieces.{nothing_read}
 use Rattle.shell.proofs.reading.read_pairs.Goals as goal
 
@@ -10,6 +11,7 @@ loop-pairs-init g c = (
   refl,
   nothing_read (g.D.Disk.content c.args.disk.now) c.args.size c.new-pairs.result (record { same = λ key. rw c.new-pairs.ensures.empty refl; count = c.new-pairs.ensures.len }) c.requires.some c.requires.header,
   omega arith,
+  unread g.D.Disk.may_leave g.D.Disk.moment g.D.Disk.left_since g.met.D.Disk.only_now c.args.disk.now,
 )
 
 pub returns-in-Ends-clause-found : goal.returns-in-Ends-clause-found
@@ -21,3 +23,28 @@ pub returns-in-Breaks-clause-found : goal.returns-in-Breaks-clause-found
 returns-in-Breaks-clause-found g c =
     let reached = subst (λ (f : Front). Reached (g.D.Disk.content c.loop-pairs.disk) c.args.size f c.read_piece.new.pairs) c.in-Breaks.is c.in_ok-read_piece.ensures.front in
     λ bytes told. reached.comes bytes (c.loop-pairs.invariant.0 ∙ told)
+
+pub returns-in_err-read_piece-clause-crash : goal.returns-in_err-read_piece-clause-crash
+returns-in_err-read_piece-clause-crash g c =
+    let D = g.D.Disk in
+    read_on D.may_leave D.moment D.left_since c.args.disk.now c.loop-pairs.disk c.read_piece.new.disk c.loop-pairs.invariant.3 c.read_piece.ensures.crash
+
+pub returns-in-Ends-clause-crash : goal.returns-in-Ends-clause-crash
+returns-in-Ends-clause-crash g c =
+    let D = g.D.Disk in
+    read_on D.may_leave D.moment D.left_since c.args.disk.now c.loop-pairs.disk c.read_piece.new.disk c.loop-pairs.invariant.3 c.read_piece.ensures.crash
+
+pub returns-in-Breaks-clause-crash : goal.returns-in-Breaks-clause-crash
+returns-in-Breaks-clause-crash g c =
+    let D = g.D.Disk in
+    read_on D.may_leave D.moment D.left_since c.args.disk.now c.loop-pairs.disk c.read_piece.new.disk c.loop-pairs.invariant.3 c.read_piece.ensures.crash
+
+pub loop-pairs-preserved : goal.loop-pairs-preserved
+loop-pairs-preserved g c =
+    let D = g.D.Disk in
+    let reached = subst (λ (f : Front). Reached (D.content c.loop-pairs.disk) c.args.size f c.read_piece.new.pairs) c.in-More.is c.in_ok-read_piece.ensures.front in (
+      c.read_piece.ensures.same ∙ c.loop-pairs.invariant.0,
+      subst (λ (o : Option (List ℕ)). Reached o c.args.size front.More c.read_piece.new.pairs) (sym c.read_piece.ensures.same) reached,
+      omega (arith, c.loop-pairs.invariant.2, c.read_piece.ensures.later),
+      read_on D.may_leave D.moment D.left_since c.args.disk.now c.loop-pairs.disk c.read_piece.new.disk c.loop-pairs.invariant.3 c.read_piece.ensures.crash,
+    )

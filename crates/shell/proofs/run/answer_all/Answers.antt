@@ -1,8 +1,11 @@
 use Rattle.std.proofs.Common.{◌≡◌, ℕ, ◌+◌, vec_len, List, pos, take, get_or, sym, ◌∙◌, ap, subst, arith}
 use Rattle.std.proofs.lemmas.Grind.{take_at_read}
 use Rattle.shell.specs.Kv.{Pairs, pairs_after_all, replies_to}
-use Rattle.shell.specs.Keeping.{Keeps}
+use Rattle.shell.specs.Keeping.{Keeps, Secures}
 use Rattle.shell.proofs.Answering.{Answered, one_more_answered, replies_to-take}
+use Rattle.lane_format.specs.Writer.{disk_of}
+use Rattle.shell.specs.Survival.{Outlasts}
+use Rattle.shell.proofs.Lasting.{one_more_lasted, short_there, stopped_there}
 use Rattle.shell.proofs.Words.{at_err, at_this}
 use Rattle.shell.specs.declared.stop.Stop.TheVariants.{OutOfMemory}
 use Rattle.shell.specs.declared.reply.Reply.{Reply}
@@ -31,8 +34,35 @@ returns-in_err-reply-clause-memory g c =
     at_this (λ stop. stop ≡ OutOfMemory → (pairs : Pairs) → Keeps content old pairs → Keeps content new (pairs_after_all pairs (take (vec_len c.loop-statement.replies) statements)))
     c.from_residual.result c.in_err-reply.field-0.0 c.from_residual.ensures.1 kept
 
+pub returns-in_err-reply-clause-stopped : goal.returns-in_err-reply-clause-stopped
+returns-in_err-reply-clause-stopped g c =
+    let D = g.D.Disk in
+    let so_far = c.loop-statement.invariant in
+    let statements = c.args.statements.now in
+    let i = c.loop-statement.statement-index in
+    let s : Statement = get_or statements i (Insert (pos 0) (pos 0)) in
+    let more = (take_at_read statements i (Insert (pos 0) (pos 0)) (omega arith)).1 in
+    let old = c.args.session.now in
+    let new = c.answer.new.self in
+    let stopped = stopped_there D.content D.may_leave D.moment D.left_since old c.loop-statement.session new statements i s more so_far.4 c.answer.ensures.moments c.answer.ensures.crash in
+    at_err c.from_residual.result (λ pairs secures. subst (λ (n : ℕ). Outlasts D.may_leave D.moment D.left_since pairs statements n (n + 1) (disk_of old.writer) (disk_of new.writer)) (sym so_far.1) (stopped pairs secures))
+
+pub returns-in_err-reply-clause-short : goal.returns-in_err-reply-clause-short
+returns-in_err-reply-clause-short g c =
+    let D = g.D.Disk in
+    let so_far = c.loop-statement.invariant in
+    let statements = c.args.statements.now in
+    let old = c.args.session.now in
+    let new = c.answer.new.self in
+    let n = vec_len c.loop-statement.replies in
+    let kept : c.in_err-reply.field-0.0 ≡ OutOfMemory → (pairs : Pairs) → Secures D.content D.may_leave old pairs → Outlasts D.may_leave D.moment D.left_since pairs statements n n (disk_of old.writer) (disk_of new.writer) =
+    λ short pairs secures. subst (λ (k : ℕ). Outlasts D.may_leave D.moment D.left_since pairs statements k k (disk_of old.writer) (disk_of new.writer)) (sym so_far.1) (short_there D.content D.may_leave D.moment D.left_since old c.loop-statement.session new statements c.loop-statement.statement-index so_far.4 (c.in_err-reply.ensures.short short) pairs secures) in
+    at_this (λ stop. stop ≡ OutOfMemory → (pairs : Pairs) → Secures D.content D.may_leave old pairs → Outlasts D.may_leave D.moment D.left_since pairs statements n n (disk_of old.writer) (disk_of new.writer))
+    c.from_residual.result c.in_err-reply.field-0.0 c.from_residual.ensures.1 kept
+
 pub loop-statement-preserved : goal.loop-statement-preserved
 loop-statement-preserved g c =
+    let D = g.D.Disk in
     let so_far = c.loop-statement.invariant in
     let pushed = rw c.unwrap.ensures at c.push.ensures.items in
     let statements = c.args.statements.now in
@@ -44,4 +74,5 @@ loop-statement-preserved g c =
       rw c.unwrap.ensures at c.push.ensures.len ∙ ap (λ n. n + 1) so_far.1,
       omega arith,
       omega arith,
+      one_more_lasted D.content D.may_leave D.moment D.left_since c.args.session.now c.loop-statement.session c.answer.new.self statements i s more so_far.4 c.answer.ensures.moments c.in_ok-reply.ensures.durable,
     )

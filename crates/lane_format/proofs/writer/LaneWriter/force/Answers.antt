@@ -1,7 +1,9 @@
-use Rattle.std.proofs.Common.{◌≡◌, ◌+◌, ◌++◌, [], ◌∷◌, List, ℕ, length, ⊎_elim, sym, ◌∙◌, ap, arith}
+use Rattle.std.proofs.Common.{◌≡◌, ◌+◌, ◌++◌, [], ◌∷◌, List, ℕ, length, ⊎_elim, sym, ◌∙◌, ap, subst, arith, IsSome, OnOk}
 use Rattle.std.specs.Option.{option_map}
+use Rattle.disk_core.specs.Crash.{NothingPending}
 use Rattle.lane_format.specs.Lane.{extended, frame_text, body_of, IsLane, lane_text}
 use Rattle.lane_format.specs.Writer.{lane_of}
+use Rattle.lane_format.proofs.Left.{both_ok, now_as_told}
 use Rattle.lane_format.proofs.Told.{at_done, told_after}
 use Rattle.lane_format.proofs.Lanes.{gate_inside, grown, length-push, length-frame_text}
 use Rattle.lane_format.specs.declared.writer.Stage.TheVariants.{Open}
@@ -40,3 +42,15 @@ returns-clause-appended g c = at_done _ _ c.append-done.result c.finish.result c
           (λ x told. (sym same ∙ holds.place x told, holds.file x told))
           (λ x is. rw c.finish.ensures.lane (grown generation lane bodies gate body x is.0 is.1));
     })
+
+pub returns-clause-durable : goal.returns-clause-durable
+returns-clause-durable g c =
+    let D = g.D.Disk in
+    let new = c.finish.new.self in
+    let pending : OnOk c.finish.result (NothingPending (D.content new.disk) (D.may_leave new.disk)) =
+    at_done _ _ c.append-done.result c.finish.result c.append-done.ensures.durable c.finish.ensures.ok c.finish.ensures.err
+    (λ pending ok. subst (λ d. NothingPending (D.content d) (D.may_leave d)) (sym c.finish.ensures.disk) pending) in
+    both_ok c.finish.result pending (returns-clause-appended g c) (λ pending appended. λ generation bodies settled.
+    let holds = appended generation bodies settled.holds in
+    let told = subst (λ d. IsSome (D.content d)) (sym c.finish.ensures.disk) (c.append-done.ensures.told settled.crash.told) in
+    record { holds = holds; crash = now_as_told D.content D.may_leave new.disk (IsLane generation new.lane (bodies ++ body_of c.args.frame.now ∷ [])) told pending holds.file })

@@ -5,8 +5,10 @@ use Rattle.lane_format.specs.declared.writer.LaneWriter.{LaneWriter}
 use Rattle.std.specs.Option.{ForSome}
 use Rattle.lane_format.specs.declared.writer.Stage.TheVariants.{Open}
 use Rattle.shell.specs.Kv.{Pairs, pair_body}
-use Rattle.shell.specs.Log.{IsLogOf, gate_place, log_text}
+use Rattle.shell.specs.Log.{IsLogOf, gate_place}
 use Rattle.shell.proofs.Batches.{length-log}
+use Rattle.shell.proofs.Securing.{quiet_now, secures_of}
+use Rattle.shell.specs.declared.session.Session.{Session}
 use Rattle.shell.proofs.session.Session.go_on.Goals as goal
 
 at_gate : (at batches count : ℕ) (pairs : Pairs) → at ≡ 11 + 21 * batches → batches ≡ count → count ≡ length pairs → at ≡ gate_place (length pairs)
@@ -38,3 +40,11 @@ returns-clause-keeps g c pairs is logged reads =
       stage = stage;
       file = opened g.D.Disk.content c.adopt_open-writer.result c.args.disk pairs c.adopt_open-writer.ensures.disk c.adopt_open-writer.ensures.lane stage reads;
     }
+
+pub returns-clause-secures : goal.returns-clause-secures
+returns-clause-secures g c pairs is logged reads bytes quiet =
+    let D = g.D.Disk in
+    let at = at_gate c.gate_place.result c.len.result _ pairs c.gate_place.ensures c.len.ensures.len is.count in
+    let now = quiet_now D.content D.may_leave c.args.disk bytes (IsLane 2 0 (map pair_body pairs)) quiet (reads bytes quiet.0).lane in
+    let session : Session g.row.D.Denot = record { writer = c.adopt_open-writer.result; pairs = c.args.pairs } in
+    secures_of D.content D.may_leave session pairs (returns-clause-keeps g c pairs is logged reads) (c.adopt_open-writer.ensures.settled (map pair_body pairs) (at ∙ sym (length-log pairs)) now)

@@ -1,0 +1,33 @@
+-- What a crash leaves of a lane file.
+use Rattle.std.specs.Prelude.{◌≡◌, ◌⊎◌, ℕ, List, [], ◌∷◌, ◌++◌, slice_index, Option, IsSome}
+use Rattle.disk_core.specs.Crash.{Tears}
+use Rattle.lane_format.specs.Lane.{IsLane}
+
+-- the file is open: its first byte is 1
+abbrev pub IsOpen : List ℕ → Type 0
+IsOpen bytes = slice_index bytes 0 ≡ 1
+
+-- it isn't: its first byte is another, or it has none
+abbrev pub IsNotOpen : List ℕ → Type 0
+IsNotOpen bytes = ¬ (IsOpen bytes)
+
+-- an open lane with these batches, or with this one behind them
+abbrev pub WithOrWithout : ℕ → ℕ → List (List ℕ) → List ℕ → List ℕ → Type 0
+WithOrWithout generation lane bodies body bytes = IsLane generation lane bodies bytes ⊎ IsLane generation lane (bodies ++ body ∷ []) bytes
+
+-- a file that isn't open, or an open lane of this generation with no batch
+abbrev pub NotOpenOrEmpty : ℕ → ℕ → List ℕ → Type 0
+NotOpenOrEmpty generation lane bytes = IsNotOpen bytes ⊎ IsLane generation lane [] bytes
+
+-- what a crash might have left of the disk, or a file that isn't open
+abbrev pub OldOrNotOpen : {D : Type 0} → (D → List ℕ → Type 0) → D → List ℕ → Type 0
+OldOrNotOpen may_leave disk bytes = may_leave disk bytes ⊎ IsNotOpen bytes
+
+-- what a crash leaves of a write to a disk of which it might have left these images
+abbrev pub TornFrom : (List ℕ → Type 0) → ℕ → List ℕ → List ℕ → Type 0
+TornFrom may_leave at written image = (before : List ℕ) × may_leave before × Tears at written before image
+
+-- The disk tells its bytes, and every crash now leaves a file that has P.
+pub record LeavesNow {D : Type 0} (content : D → Option (List ℕ)) (may_leave : D → List ℕ → Type 0) (disk : D) (P : List ℕ → Type 0) : Type 0 where
+  pub told : IsSome (content disk)
+  pub each : (image : List ℕ) → may_leave disk image → P image

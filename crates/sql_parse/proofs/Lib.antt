@@ -1,0 +1,13 @@
+pub mod Answering
+pub mod Choices
+pub mod Exact
+pub mod ExactRules
+pub mod ExactTokens
+pub mod ExactValues
+pub mod Giving
+pub mod KeyMarks
+pub mod Loops
+pub mod Quotes
+pub mod Repetition
+pub mod Signed
+pub mod Whole

@@ -1,0 +1,25 @@
+//! The statements of SQL: every text is read as its one statement, or refused at the first place at which none goes on so.
+#![tactic(auto)]
+
+mod changes;
+mod conditions;
+mod creates;
+mod fault;
+mod laws;
+mod literal;
+mod parser;
+mod parsing;
+mod selects;
+mod statement;
+#[cfg(test)]
+mod tests;
+mod values;
+
+pub use causes::OutOfMemory;
+pub use fault::ParseFault;
+pub use laws::{literal_text, one_answer, one_statement};
+pub use parsing::parse;
+pub use statement::{
+    Change, Comparison, Condition, Delete, Insert, Order, Select, Shown, Statement, Step, Term,
+    Total, Totals, Update,
+};
