@@ -1,11 +1,8 @@
 -- A disk in memory, whose calls fail where they are named or find too little room.
 use Rattle.std.specs.Prelude.{ℕ, ◌+◌, ◌-◌, ◌*◌, ◌^◌, min, List, [], ◌∷◌, length, Result, Ok, Err, is_ok, is_err, nat_le, if◌then◌else◌}
+use Rattle.causes.specs.Causes.{one_more}
 use Rattle.disk_core.specs.History.{Change, Wrote, Tried, Synced, content_after, MayLeave, LeftSince}
 use Rattle.disk_core.specs.Places.{at_sync}
-
--- one more, or the same at the end of the type
-abbrev pub one_more : ℕ → ℕ
-one_more n = min (n + 1) (2 ^ 64 - 1)
 
 -- the bytes at first and the change calls since, of which the latest comes first, the room that is left, how many change calls and read calls there were since their names were given, those names, and how many calls failed
 pub record MemoryView : Type 0 where

@@ -1,10 +1,10 @@
 // A disk in memory, which tells its bytes and fails at the calls that it is told to.
 ghost use Rattle.std.specs.Prelude.{◌≡◌, ◌⊎◌, ◌↔◌, ◌+◌, ◌<◌, ◌≤◌, List, ℕ, [], Some, length, slice_index, EachIndex, Contains, IsTrue, IsErr, IfOk, OnOk, OnErr, vec_len, vec_capacity};
-ghost use Rattle.causes.specs.Causes.{HasCause};
+ghost use Rattle.causes.specs.Causes.{HasCause, one_more};
 ghost use Rattle.disk_core.specs.Crash.{Elapses, Follows, NoneNew, Only, Tears};
 ghost use Rattle.disk_core.specs.Device.{Measures, Reads, Writes, written};
 ghost use Rattle.disk_core.specs.Places.{IsImage, choice_for, crashed_byte};
-ghost use Rattle.disk_core.specs.Memory.{one_more, room_of, content_of, synced_of, new_disk, CrashLeaves, CrashLeftSince, after_read, after_write, after_sync};
+ghost use Rattle.disk_core.specs.Memory.{room_of, content_of, synced_of, new_disk, CrashLeaves, CrashLeftSince, after_read, after_write, after_sync};
 
 use crate::history::{Entry, History};
 use crate::tear::tear;

@@ -1,10 +1,6 @@
 -- Objects in memory that fail at the calls whose numbers they were given.
-use Rattle.std.specs.Prelude.{ℕ, ◌+◌, ◌-◌, ◌^◌, min, List}
+use Rattle.std.specs.Prelude.{ℕ, List}
 use Rattle.io_edge.specs.Content.{Content}
-
--- one more, or the same at the end of the type
-abbrev pub one_more : ℕ → ℕ
-one_more n = min (n + 1) (2 ^ 64 - 1)
 
 -- a source in memory: its content, how many pulls it had, which pulls fail, how many failed
 pub record SourceView : Type 0 where

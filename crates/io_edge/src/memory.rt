@@ -1,9 +1,8 @@
 // Sources and sinks in memory, which tell their content and fail at the calls that they are told to.
 ghost use Rattle.std.specs.Prelude.{◌≡◌, ◌⊎◌, ◌↔◌, ◌+◌, ◌<◌, ◌≤◌, [], length, drop, min, Contains, IsErr, IfOk, OnOk, OnErr, vec_capacity};
-ghost use Rattle.causes.specs.Causes.{HasCause};
+ghost use Rattle.causes.specs.Causes.{HasCause, one_more};
 ghost use Rattle.io_edge.specs.Content.{Pulls};
 ghost use Rattle.io_edge.specs.Pushing.{Pushes};
-ghost use Rattle.io_edge.specs.Named.{one_more};
 
 use crate::{Failed, Sink, Source};
 use std::marker::Model;

@@ -1,7 +1,6 @@
 // Standard input and output. They tell no bytes, and count their faults.
 ghost use Rattle.std.specs.Prelude.{◌≡◌, ◌≤◌, None, length, IfOk, OnOk, OnErr};
-ghost use Rattle.causes.specs.Causes.{HasCause};
-ghost use Rattle.io_edge.specs.Named.{one_more};
+ghost use Rattle.causes.specs.Causes.{HasCause, one_more};
 
 use crate::{Failed, Sink, Source};
 use std::io::{ErrorKind, Read, Stdin, Stdout, Write};

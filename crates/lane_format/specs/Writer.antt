@@ -1,5 +1,5 @@
 -- What a lane writer knows of its file, and how its calls fail.
-use Rattle.std.specs.Prelude.{◌≡◌, ◌↔◌, ℕ, ◌<◌, ◌≤◌, ◌^◌, false, List, length, Option, Result, Err}
+use Rattle.std.specs.Prelude.{◌≡◌, ◌↔◌, ℕ, ◌<◌, ◌≤◌, ◌^◌, false, List, length, Option, Result, Err, OnOk}
 use Rattle.std.specs.Option.{ForSome}
 use Rattle.causes.specs.Causes.{Rose}
 use Rattle.disk_core.specs.declared.store.FileName.{FileName}
@@ -53,10 +53,11 @@ pub record IsSettled {D : Type 0} (content : D → Option (List ℕ)) (may_leave
 abbrev pub IsNear : {D : Type 0} → LaneWriter D → Type 0
 IsNear w = (generation gate : ℕ) → stage_of w ≡ Open generation gate → gate ≤ 2 ^ 62
 
--- How a call ends: `Disk` names its file, whose count rose, and is kept; `Closed` comes exactly after such a fault, names the kept file and changes nothing.
+-- How a call ends: an Ok leaves the count of faults; `Disk` names its file, whose count rose, and is kept; `Closed` comes exactly after such a fault, names the kept file and changes nothing.
 pub record KeepsFault {D T : Type 0} (faults : D → ℕ) (old new : LaneWriter D) (result : Result T LaneFault) : Type 0 where
   pub lane : lane_of new ≡ lane_of old
   pub later : faults (disk_of old) ≤ faults (disk_of new)
+  pub still : OnOk result (faults (disk_of new) ≡ faults (disk_of old))
   pub disk : (file : FileName) → result ≡ Err (Disk file) → (file ≡ even_file (lane_of old)) × Rose (faults (disk_of old)) (faults (disk_of new)) × (stage_of new ≡ Failed file)
   pub closed : (file : FileName) → (result ≡ Err (Closed file)) ↔ (stage_of old ≡ Failed file)
   pub unchanged : IsFailed old → new ≡ old

@@ -35,23 +35,25 @@ stops_there pairs statements shown n replies word within are shown_is = record {
 }
 
 module _ {D : Type 0} (content : D → Option (List ℕ)) (faults : D → ℕ) (statements : List Statement) (disk : D) (session : Session D) (pairs : Pairs) (entry : ForSome (content disk) (BeginsWith pairs)) (shown : Option (List Reply)) (e : End) (now : D) (now_is : now ≡ disk_of session.writer) where
-  pub run_done : e ≡ end.Done → shown ≡ Some (replies_to pairs statements) → Keeps content session (pairs_after_all pairs statements) → Runs content faults (Some statements) disk e shown now
-  run_done is replies keeps =
+  pub run_done : e ≡ end.Done → faults (disk_of session.writer) ≡ faults disk → shown ≡ Some (replies_to pairs statements) → Keeps content session (pairs_after_all pairs statements) → Runs content faults (Some statements) disk e shown now
+  run_done is still replies keeps =
       subst (λ (x : End). Runs content faults (Some statements) disk x shown now) (sym is)
-      (pairs, entry, record { replies = replies; kept = λ bytes told. keeps_log content session (pairs_after_all pairs statements) keeps bytes (ap content (sym now_is) ∙ told) })
+      (pairs, entry, record { replies = replies; kept = λ bytes told. keeps_log content session (pairs_after_all pairs statements) keeps bytes (ap content (sym now_is) ∙ told) }, ap faults now_is ∙ still)
 
   module _ (n : ℕ) (replies : List Reply) (within : n < length statements) (are : replies ≡ take n (replies_to pairs statements)) where
-    pub run_short : e ≡ end.OutOfMemory → shown ≡ Some (replies ++ replicate (length statements - n) StoppedMemory) → Keeps content session (pairs_after_all pairs (take n statements)) → Runs content faults (Some statements) disk e shown now
-    run_short is shown_is keeps =
-        subst (λ (x : End). Runs content faults (Some statements) disk x shown now) (sym is)
-        (inr (
-          pairs,
-          entry,
-          record {
-            stops = stops_there pairs statements shown n replies StoppedMemory within are shown_is;
-            kept = λ bytes told. keeps_log content session (pairs_after_all pairs (take n statements)) keeps bytes (ap content (sym now_is) ∙ told);
-          },
-        ))
+    pub run_short : e ≡ end.OutOfMemory → faults (disk_of session.writer) ≡ faults disk → shown ≡ Some (replies ++ replicate (length statements - n) StoppedMemory) → Keeps content session (pairs_after_all pairs (take n statements)) → Runs content faults (Some statements) disk e shown now
+    run_short is still shown_is keeps =
+        subst (λ (x : End). Runs content faults (Some statements) disk x shown now) (sym is) (
+          inr (
+            pairs,
+            entry,
+            record {
+              stops = stops_there pairs statements shown n replies StoppedMemory within are shown_is;
+              kept = λ bytes told. keeps_log content session (pairs_after_all pairs (take n statements)) keeps bytes (ap content (sym now_is) ∙ told);
+            },
+          ),
+          ap faults now_is ∙ still,
+        )
 
     pub run_failed : (file : FileName) → e ≡ end.Disk file → shown ≡ Some (replies ++ replicate (length statements - n) Stopped) → file ≡ even_file 0 → Rose (faults disk) (faults (disk_of session.writer))
         → Runs content faults (Some statements) disk e shown now

@@ -1,9 +1,14 @@
 -- A lane that hasn't failed tells a fault only where its disk's count rose.
-use Rattle.std.proofs.Common.{◌≡◌, ◌≢◌, ℕ, ◌≤◌, Result, Ok, Err, OnErr, arith, refl}
+use Rattle.std.proofs.Common.{◌≡◌, ◌≢◌, ℕ, ◌≤◌, Result, Ok, Err, OnErr, IsErrAnd, arith, refl, ◌∙◌, subst, sym}
+use Rattle.std.specs.Bool.{⊤}
 use Rattle.causes.specs.Causes.{Rose}
 use Rattle.disk_core.specs.declared.store.FileName.{FileName}
 use Rattle.lane_format.specs.Writer.{KeepsFault, disk_of, stage_of}
 use Rattle.lane_format.specs.declared.writer.LaneFault.{LaneFault}
+use Rattle.shell.specs.Outcome.{CountStands, StopStands}
+use Rattle.shell.specs.declared.stop.Stop.{Stop}
+use Rattle.shell.specs.declared.stop.Stop.TheVariants.{OutOfMemory}
+use Rattle.shell.specs.declared.stop.Stop.TheVariants as stop
 use Rattle.lane_format.specs.declared.writer.LaneFault.TheVariants.{Disk, Closed}
 use Rattle.lane_format.specs.declared.writer.LaneWriter.{LaneWriter}
 use Rattle.lane_format.specs.declared.writer.Stage.TheVariants.{Failed}
@@ -26,3 +31,14 @@ at_this_err (Err y) e p is = p
 pub map_err : {T E P Q : Type 0} (r : Result T E) → (P → Q) → OnErr r P → OnErr r Q
 map_err (Ok x) f p = tt
 map_err (Err y) f p = f p
+
+-- where no memory was found, the count stands
+pub stands_short : (before now : ℕ) (why : Stop) → why ≡ OutOfMemory → StopStands before now why → now ≡ before
+stands_short before now OutOfMemory is stands = stands
+stands_short before now (stop.Disk file) is stands = absurd cc
+
+-- the count stood before, and this is how the last call ended
+pub stands_from : {T : Type 0} (start before now : ℕ) (r : Result T Stop) (why : Stop) → IsErrAnd r (λ x. x ≡ why) → before ≡ start → StopStands before now why → CountStands start now r
+stands_from start before now (Ok x) why is same stands = absurd is
+stands_from start before now (Err OutOfMemory) why is same stands = stands_short before now why (sym is) stands ∙ same
+stands_from start before now (Err (stop.Disk file)) why is same stands = tt

@@ -1,5 +1,7 @@
 -- What a status says, by the end of its call.
 use Rattle.std.proofs.Common.{◌≡◌, ◌≢◌, inl, inr, ℕ, List, [], ◌++◌, take, Option, refl, sym, ◌∙◌, ap, subst, arith}
+use Rattle.std.specs.Bool.{⊤}
+use Rattle.std.proofs.lemmas.Bool.{cases_eq}
 use Rattle.std.proofs.lemmas.List.{append-nil}
 use Rattle.std.specs.Option.{option_map, ForSome}
 use Rattle.causes.specs.Causes.{Rose}
@@ -86,6 +88,48 @@ module _ {D : Type 0} (words : List (List ℕ)) (before : Option Content) (fell 
   explained end shown (inr (inl unread)) = unread_says end shown unread.asks unread.fault
   explained end shown (inr (inr ran)) = ran_says end shown ran
 
+  -- the count of the disk's faults, by the end
+  abbrev Stands : End → Type 0
+  Stands Done = faults now ≡ faults disk
+  Stands Usage = faults now ≡ faults disk
+  Stands OutOfMemory = faults now ≡ faults disk
+  Stands (Disk file) = ⊤
+  Stands Source = faults now ≡ faults disk
+  Stands Script = faults now ≡ faults disk
+  Stands Damaged = faults now ≡ faults disk
+
+  untouched_stands : (end : End) → now ≡ disk → Stands end
+  untouched_stands Done same = ap faults same
+  untouched_stands Usage same = ap faults same
+  untouched_stands OutOfMemory same = ap faults same
+  untouched_stands (Disk file) same = tt
+  untouched_stands Source same = ap faults same
+  untouched_stands Script same = ap faults same
+  untouched_stands Damaged same = ap faults same
+
+  ran_stands : (end : End) (shown : Option (List Reply)) → ScriptRan words before after content faults disk end shown now → Stands end
+  ran_stands Done shown ran = ran.runs.3
+  ran_stands Usage shown ran = absurd ran.runs
+  ran_stands OutOfMemory shown ran = ran.runs.1
+  ran_stands (Disk file) shown ran = tt
+  ran_stands Source shown ran = absurd ran.runs
+  ran_stands Script shown ran = absurd ran.runs
+  ran_stands Damaged shown ran = ran.runs.3
+
+  explained_stands : (end : End) (shown : Option (List Reply)) → Explains words before fell after risen content faults disk end shown now → Stands end
+  explained_stands end shown (inl wrong) = untouched_stands end wrong.untouched
+  explained_stands end shown (inr (inl unread)) = untouched_stands end unread.untouched
+  explained_stands end shown (inr (inr ran)) = ran_stands end shown ran
+
+  stands_but_disk : (end : End) → status_of end ≢ 4 → Stands end → faults now ≡ faults disk
+  stands_but_disk Done isnt stands = stands
+  stands_but_disk Usage isnt stands = stands
+  stands_but_disk OutOfMemory isnt stands = stands
+  stands_but_disk (Disk file) isnt stands = absurd (isnt refl)
+  stands_but_disk Source isnt stands = stands
+  stands_but_disk Script isnt stands = stands
+  stands_but_disk Damaged isnt stands = stands
+
   module _ (start : Option (List ℕ)) (fell' : ℕ) (shown : Option (List Reply)) (end : End) (status : ℕ) (taken : Option (List ℕ)) (risen' : ℕ) (why : Explains words before fell after risen content faults disk end shown now) (shows : Shows start fell' shown end status taken risen') where
     ends : status ≢ 6 → (e : End) → end ≡ e → Says e shown
     ends not_six e is = subst (λ (x : End). Says x shown) is (explained end shown why)
@@ -129,3 +173,9 @@ module _ {D : Type 0} (words : List (List ℕ)) (before : Option Content) (fell 
         let not_six : status ≢ 6 = λ six. omega (arith, eight, six) in
         let says = ends not_six Damaged (eight_is_damaged end (sym (shows.other not_six) ∙ eight)) in
         (says.1, says.2)
+
+    pub count_stands : status ≢ 4 → faults now ≡ faults disk
+    count_stands isnt = elim (cases_eq status 6) [
+      | inl six ↦ stands_but_disk Done (λ four. omega (arith, four)) (subst Stands (shows.six six).0 (explained_stands end shown why))
+      | inr not_six ↦ stands_but_disk end (λ four. isnt (shows.other not_six ∙ four)) (explained_stands end shown why)
+    ]

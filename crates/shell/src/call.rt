@@ -1,4 +1,4 @@
-ghost use Rattle.std.specs.Prelude.{◌≡◌, ◌↔◌, ◌≤◌, ℕ, List, length, take, Option, IfOk, IfErr, IsTrue, None};
+ghost use Rattle.std.specs.Prelude.{◌≡◌, ◌≢◌, ◌↔◌, ◌≤◌, ℕ, List, length, take, Option, IfOk, IfErr, IsTrue, None};
 ghost use Rattle.std.specs.Option.{ForSome};
 ghost use Rattle.causes.specs.Causes.{Rose};
 ghost use Rattle.shell.specs.Log.{Damaged, lane_reads};
@@ -54,6 +54,7 @@ pub fn ptime<S: Source, K: Sink, D: Disk>(
     ensures done { result.status ≡ 0 → AllDone words.now (S.content source.old) (S.content source.new) (K.taken sink.old) (K.taken sink.new) D.content (log_file store) (log_file result.store) }
     ensures usage { (result.status ≡ 2) ↔ ¬ (IsRun words.now) }
     ensures disk { result.status ≡ 4 → Rose (D.faults (log_file store)) (D.faults (log_file result.store)) }
+    ensures still { result.status ≢ 4 → D.faults (log_file result.store) ≡ D.faults (log_file store) }
     ensures source { result.status ≡ 5 → Rose (S.faults source.old) (S.faults source.new) }
     ensures sink { result.status ≡ 6 → Rose (K.faults sink.old) (K.faults sink.new) }
     ensures script { result.status ≡ 7 → ForSome (S.content source.old) (λ content. (script : Option (List Line)) → ¬ (IsScript (take read_limit content.left) script)) }

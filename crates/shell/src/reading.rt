@@ -11,6 +11,7 @@ ghost use Rattle.shell.specs.Keeping.{IsMapOf};
 ghost use Rattle.shell.specs.Kv.{Pairs};
 ghost use Rattle.lane_format.specs.Crash.{IsOpen};
 ghost use Rattle.shell.specs.Log.{MayBeLogged};
+ghost use Rattle.shell.specs.Outcome.{CountStands};
 ghost use Rattle.shell.specs.Opening.{Adds, HasClosedGate, IsFound, Reached};
 ghost use Rattle.shell.specs.Survival.{LeavesAsWas};
 
@@ -55,6 +56,7 @@ pub(crate) fn read_log<D: Disk>(alloc: Global, disk: &mut D) -> Result<Found, St
     ensures same { D.content disk.new ≡ D.content disk.old }
     ensures crash { LeavesAsWas D.may_leave D.moment D.left_since disk.old disk.new }
     ensures later { D.faults disk.old ≤ D.faults disk.new }
+    ensures still { CountStands (D.faults disk.old) (D.faults disk.new) result }
     ensures cause { IfErr result (λ stop. (file : FileName) → stop ≡ Stop.Disk file → (file ≡ even_file 0) × Rose (D.faults disk.old) (D.faults disk.new)) }
 {
     let size = disk.size()?;
@@ -105,6 +107,7 @@ fn read_pairs<D: Disk>(alloc: Global, disk: &mut D, size: u64) -> Result<Found, 
     ensures same { D.content disk.new ≡ D.content disk.old }
     ensures crash { LeavesAsWas D.may_leave D.moment D.left_since disk.old disk.new }
     ensures later { D.faults disk.old ≤ D.faults disk.new }
+    ensures still { CountStands (D.faults disk.old) (D.faults disk.new) result }
     ensures cause { IfErr result (λ stop. (file : FileName) → stop ≡ Stop.Disk file → (file ≡ even_file 0) × Rose (D.faults disk.old) (D.faults disk.new)) }
 {
     let mut pairs = BTreeMap::new(alloc);
@@ -133,6 +136,7 @@ fn read_piece<D: Disk>(
     ensures same { D.content disk.new ≡ D.content disk.old }
     ensures crash { LeavesAsWas D.may_leave D.moment D.left_since disk.old disk.new }
     ensures later { D.faults disk.old ≤ D.faults disk.new }
+    ensures still { CountStands (D.faults disk.old) (D.faults disk.new) result }
     ensures cause { IfErr result (λ stop. (file : FileName) → stop ≡ Stop.Disk file → (file ≡ even_file 0) × Rose (D.faults disk.old) (D.faults disk.new)) }
 {
     let at = gate_place(pairs.len());

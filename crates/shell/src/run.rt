@@ -2,7 +2,7 @@
 ghost use Rattle.std.specs.Prelude.{◌≡◌, ◌+◌, ◌-◌, ◌<◌, ◌≤◌, [], ◌++◌, length, take, replicate, ℕ, List, Some, IfErr, OnOk, OnErr, vec_len, vec_capacity};
 ghost use Rattle.std.specs.Option.{ForSome};
 ghost use Rattle.shell.specs.Log.{BeginsWith};
-ghost use Rattle.shell.specs.Outcome.{Runs};
+ghost use Rattle.shell.specs.Outcome.{CountStands, Runs};
 ghost use Rattle.shell.specs.Session.{script_of};
 ghost use Rattle.shell.specs.Shown.{shown_of};
 ghost use Rattle.causes.specs.Causes.{Rose};
@@ -39,6 +39,7 @@ fn answer_all<D: Disk>(
     ensures disk { IfErr result (λ stop. (file : FileName) → stop ≡ Stop.Disk file
         → (file ≡ even_file 0) × Rose (D.faults (disk_of session.old.writer)) (D.faults (disk_of session.new.writer))) }
     ensures room { length statements.now ≤ vec_capacity replies.new }
+    ensures still { CountStands (D.faults (disk_of session.old.writer)) (D.faults (disk_of session.new.writer)) result }
     ensures outlasts { OnOk result ((pairs : Pairs) → Secures D.content D.may_leave session.old pairs
         → Outlasts D.may_leave D.moment D.left_since pairs statements.now (length statements.now) (length statements.now) (disk_of session.old.writer) (disk_of session.new.writer)) }
     ensures stopped { OnErr result ((pairs : Pairs) → Secures D.content D.may_leave session.old pairs
@@ -73,7 +74,7 @@ fn run_session<D: Disk>(
     requires keeps { (pairs : Pairs) × Keeps D.content session pairs }
     requires none { replies.items ≡ [] }
     requires room { length statements.now ≤ vec_capacity replies }
-    ensures runs { (pairs : Pairs) (disk : D) → Keeps D.content session pairs → ForSome (D.content disk) (BeginsWith pairs) → D.faults disk ≤ D.faults (disk_of session.writer)
+    ensures runs { (pairs : Pairs) (disk : D) → Keeps D.content session pairs → ForSome (D.content disk) (BeginsWith pairs) → D.faults (disk_of session.writer) ≡ D.faults disk
         → Runs D.content D.faults (Some statements.now) disk result.1.end (shown_of result.1) result.0 }
     ensures survives { (pairs : Pairs) (disk : D) (bytes : List ℕ) → Secures D.content D.may_leave session pairs → BeginsWith pairs bytes → LeavesOnly D.moment D.left_since disk (disk_of session.writer) (BeginsWith pairs)
         → Survives D.may_leave D.moment D.left_since bytes (Some statements.now) disk result.1.end (shown_of result.1) result.0 }

@@ -35,13 +35,13 @@ impl<D: Disk> Session<D> {
     ghost use Rattle.shell.specs.Kv.{Pairs, found, pairs_after, reply_to, value_of};
     ghost use Rattle.lane_format.specs.Crash.{IsOpen};
     ghost use Rattle.shell.specs.Log.{BeginsWith, IsLogOf, MayBeLogged, Holding, lane_reads};
-    ghost use Rattle.shell.specs.Outcome.{CannotOpen};
+    ghost use Rattle.shell.specs.Outcome.{CannotOpen, CountStands};
 
     /// Begins over a log file. One that isn't open becomes an open lane with no pairs; one that is the log of
     /// pairs is gone on with. One that is damaged stays as it was. An `Err` gives the disk back.
     pub(crate) fn open(alloc: Global, mut disk: D) -> Result<Session<D>, (End, D)>
         ensures begun { IfOk result (λ session. (pairs : Pairs) × Keeps D.content session pairs
-            × ForSome (D.content disk) (BeginsWith pairs) × (D.faults disk ≤ D.faults (disk_of session.writer))
+            × ForSome (D.content disk) (BeginsWith pairs) × (D.faults (disk_of session.writer) ≡ D.faults disk)
             × ((bytes : List ℕ) → IsQuiet D.content D.may_leave disk bytes → Secures D.content D.may_leave session pairs
             × LeavesOnly D.moment D.left_since disk (disk_of session.writer) (BeginsWith pairs))) }
         ensures refused { IfErr result (λ e. CannotOpen D.content D.faults disk e.0 e.1 × (D.faults disk ≤ D.faults e.1)) }
@@ -58,7 +58,7 @@ impl<D: Disk> Session<D> {
     }
 
     fn begin(alloc: Global, disk: D) -> Result<Session<D>, (End, D)>
-        ensures begun { IfOk result (λ session. Keeps D.content session [] × (D.faults disk ≤ D.faults (disk_of session.writer))) }
+        ensures begun { IfOk result (λ session. Keeps D.content session [] × (D.faults (disk_of session.writer) ≡ D.faults disk)) }
         ensures refused { IfErr result (λ e. (e.0 ≡ End.Disk (even_file 0)) × Rose (D.faults disk) (D.faults e.1) × (D.faults disk ≤ D.faults e.1)) }
         ensures secures { IfOk result (λ session. (bytes : List ℕ) → IsQuiet D.content D.may_leave disk bytes → ¬ (IsOpen bytes) → Secures D.content D.may_leave session []
             × LeavesOnly D.moment D.left_since disk (disk_of session.writer) (BeginsWith [])) }
@@ -103,6 +103,7 @@ impl<D: Disk> Session<D> {
         ensures disk { IfErr result (λ stop. (file : FileName) → stop ≡ Stop.Disk file
             → (file ≡ even_file 0) × Rose (D.faults (disk_of self.old.writer)) (D.faults (disk_of self.new.writer))) }
         ensures later { D.faults (disk_of self.old.writer) ≤ D.faults (disk_of self.new.writer) }
+        ensures still { CountStands (D.faults (disk_of self.old.writer)) (D.faults (disk_of self.new.writer)) result }
         ensures moments { (pairs : Pairs) → Secures D.content D.may_leave self.old pairs
             → LeavesOnly D.moment D.left_since (disk_of self.old.writer) (disk_of self.new.writer) (WithOrWithout pairs statement.now) }
         ensures crash { (pairs : Pairs) → Secures D.content D.may_leave self.old pairs → LeavesNow D.content D.may_leave (disk_of self.new.writer) (WithOrWithout pairs statement.now) }
@@ -124,6 +125,7 @@ impl<D: Disk> Session<D> {
         ensures disk { IfErr result (λ stop. (file : FileName) → stop ≡ Stop.Disk file
             → (file ≡ even_file 0) × Rose (D.faults (disk_of self.old.writer)) (D.faults (disk_of self.new.writer))) }
         ensures later { D.faults (disk_of self.old.writer) ≤ D.faults (disk_of self.new.writer) }
+        ensures still { CountStands (D.faults (disk_of self.old.writer)) (D.faults (disk_of self.new.writer)) result }
         ensures moments { (pairs : Pairs) → Secures D.content D.may_leave self.old pairs
             → LeavesOnly D.moment D.left_since (disk_of self.old.writer) (disk_of self.new.writer) (WithOrWithout pairs (Statement.Insert key value)) }
         ensures crash { (pairs : Pairs) → Secures D.content D.may_leave self.old pairs → LeavesNow D.content D.may_leave (disk_of self.new.writer) (WithOrWithout pairs (Statement.Insert key value)) }
@@ -159,6 +161,7 @@ fn make_empty<D: Disk>(writer: &mut LaneWriter<D>) -> Result<(), LaneFault>
     requires lane { lane_of writer.old ≡ 0 }
     ensures empty { OnOk result (Holds D.content writer.new 2 [] × (stage_of writer.new ≡ Open 2 11) × (lane_of writer.new ≡ 0)) }
     ensures later { D.faults (disk_of writer.old) ≤ D.faults (disk_of writer.new) }
+    ensures still { OnOk result (D.faults (disk_of writer.new) ≡ D.faults (disk_of writer.old)) }
     ensures cause { OnErr result (Rose (D.faults (disk_of writer.old)) (D.faults (disk_of writer.new))) }
     ensures moments { IsSome (D.content (disk_of writer.old)) → LeavesOnly D.moment D.left_since (disk_of writer.old) (disk_of writer.new) (OldOrEmpty D.may_leave (disk_of writer.old)) }
     ensures durable { OnOk result (IsSome (D.content (disk_of writer.old)) → IsSettled D.content D.may_leave writer.new 2 []) }
@@ -176,6 +179,7 @@ fn force_pair<D: Disk>(writer: &mut LaneWriter<D>, key: i64, value: i64) -> Resu
     ensures stage { OnOk result ((gate : ℕ) → stage_of writer.old ≡ Open 2 gate → stage_of writer.new ≡ Open 2 (gate + BATCH)) }
     ensures lane { lane_of writer.new ≡ lane_of writer.old }
     ensures later { D.faults (disk_of writer.old) ≤ D.faults (disk_of writer.new) }
+    ensures still { OnOk result (D.faults (disk_of writer.new) ≡ D.faults (disk_of writer.old)) }
     ensures cause { IfErr result (λ stop. (stop ≡ Stop.Disk (even_file 0)) × Rose (D.faults (disk_of writer.old)) (D.faults (disk_of writer.new))) }
     ensures moments { (bodies : List (List ℕ)) → IsSettled D.content D.may_leave writer.old 2 bodies
         → LeavesOnly D.moment D.left_since (disk_of writer.old) (disk_of writer.new) (EitherLane 2 0 bodies (pair_body (key, value))) }

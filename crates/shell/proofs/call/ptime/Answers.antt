@@ -3,7 +3,7 @@ use Rattle.disk_core.specs.declared.store.Store.{Store}
 use Rattle.shell.specs.Call.{AllDone, Answers}
 use Rattle.shell.specs.Files.{log_file}
 use Rattle.shell.specs.Shown.{shown_of}
-use Rattle.shell.proofs.Statuses.{all_done, no_run, no_script, stays_damaged}
+use Rattle.shell.proofs.Statuses.{all_done, count_stands, no_run, no_script, stays_damaged}
 use Rattle.shell.proofs.call.ptime.Goals as goal
 
 pub returns-clause-done : goal.returns-clause-done
@@ -59,3 +59,13 @@ returns-clause-answers g c =
       lasts = c.call-even.ensures.lasts;
     } in
     subst (Said (log_file c.args.store)) (sym same) (subst (λ (d : g.row.D.Denot). Said d c.call-even.result.0) (sym entry) said)
+
+pub returns-clause-still : goal.returns-clause-still
+returns-clause-still g c isnt =
+    let new : Store g.row.D.Denot = record { area_a = c.args.store.area_a; area_b = c.args.store.area_b; lanes = c.push_reserved.new.self } in
+    let same : log_file new ≡ c.call-even.result.0 = search (rules, c.push_reserved.ensures.items, c.pop.ensures, c.requires.lane) in
+    let entry : log_file c.args.store ≡ c.unwrap-even.result.even = search (rules, c.pop.ensures, c.unwrap-even.ensures, c.requires.lane) in
+    let faults = g.D.Disk.faults in
+    let stands = count_stands c.args.words.now (g.S.Source.content c.args.source.now) (g.S.Source.faults c.args.source.now) (g.S.Source.content c.call-even.new.source) (g.S.Source.faults c.call-even.new.source) g.D.Disk.content faults c.unwrap-even.result.even c.call-even.result.0
+    (g.K.Sink.taken c.args.sink.now) (g.K.Sink.faults c.args.sink.now) (shown_of c.call-even.result.1) c.call-even.result.1.end c.print-status.result (g.K.Sink.taken c.print-status.new.sink) (g.K.Sink.faults c.print-status.new.sink) c.call-even.ensures.explains c.print-status.ensures isnt in
+    ap faults same ∙ stands ∙ ap faults (sym entry)

@@ -6,6 +6,7 @@ use Rattle.shell.proofs.Answering.{Answered, one_more_answered, replies_to-take}
 use Rattle.lane_format.specs.Writer.{disk_of}
 use Rattle.shell.specs.Survival.{Outlasts}
 use Rattle.shell.proofs.Lasting.{one_more_lasted, short_there, stopped_there}
+use Rattle.shell.proofs.Faults.{stands_from}
 use Rattle.shell.proofs.Words.{at_err, at_this}
 use Rattle.shell.specs.declared.stop.Stop.TheVariants.{OutOfMemory}
 use Rattle.shell.specs.declared.reply.Reply.{Reply}
@@ -60,6 +61,14 @@ returns-in_err-reply-clause-short g c =
     at_this (λ stop. stop ≡ OutOfMemory → (pairs : Pairs) → Secures D.content D.may_leave old pairs → Outlasts D.may_leave D.moment D.left_since pairs statements n n (disk_of old.writer) (disk_of new.writer))
     c.from_residual.result c.in_err-reply.field-0.0 c.from_residual.ensures.1 kept
 
+pub returns-in_err-reply-clause-still : goal.returns-in_err-reply-clause-still
+returns-in_err-reply-clause-still g c =
+    let faults = g.D.Disk.faults in
+    stands_from (faults (disk_of c.args.session.now.writer)) (faults (disk_of c.loop-statement.session.writer)) (faults (disk_of c.answer.new.self.writer)) c.from_residual.result c.in_err-reply.field-0.0 c.from_residual.ensures.1 c.loop-statement.invariant.3 c.in_err-reply.ensures.still
+
+pub returns-clause-still : goal.returns-clause-still
+returns-clause-still g c = c.loop-statement.invariant.3
+
 pub loop-statement-preserved : goal.loop-statement-preserved
 loop-statement-preserved g c =
     let D = g.D.Disk in
@@ -73,6 +82,6 @@ loop-statement-preserved g c =
       subst (λ (l : List Reply). Answered g.D.Disk.content c.args.session.now c.answer.new.self statements (i + 1) l) (sym pushed) answered,
       rw c.unwrap.ensures at c.push.ensures.len ∙ ap (λ n. n + 1) so_far.1,
       omega arith,
-      omega arith,
+      c.in_ok-reply.ensures.still ∙ so_far.3,
       one_more_lasted D.content D.may_leave D.moment D.left_since c.args.session.now c.loop-statement.session c.answer.new.self statements i s more so_far.4 c.answer.ensures.moments c.in_ok-reply.ensures.durable,
     )

@@ -1,7 +1,7 @@
 use Rattle.std.proofs.Common.{◌≡◌, ℕ, ◌+◌, length, Some, vec_len, arith, sym, ◌∙◌, ap, subst}
 use Rattle.lane_format.specs.Writer.{disk_of}
 use Rattle.shell.specs.Shown.{shown_of}
-use Rattle.shell.proofs.Faults.{rose_later}
+use Rattle.shell.proofs.Faults.{rose_later, stands_short}
 use Rattle.shell.specs.Survival.{Outlasts}
 use Rattle.shell.specs.declared.reply.Reply.TheVariants.{Stopped, StoppedMemory}
 use Rattle.shell.proofs.Ending.{run_done, run_failed, run_short, stops_there}
@@ -12,14 +12,14 @@ pub returns-in-Ok-clause-runs : goal.returns-in-Ok-clause-runs
 returns-in-Ok-clause-runs g c pairs disk keeps entry later =
     let done = c.in-Ok.ensures.ok pairs keeps in
     run_done g.D.Disk.content g.D.Disk.faults c.args.statements.now disk c.answer_all.new.session pairs entry (shown_of c.end_session.result.1) c.end_session.result.1.end c.end_session.result.0 c.end_session.ensures.disk
-    c.end_session.ensures.end (c.end_session.ensures.shown ∙ ap Some done.0) done.1
+    c.end_session.ensures.end (c.in-Ok.ensures.still ∙ later) (c.end_session.ensures.shown ∙ ap Some done.0) done.1
 
 pub returns-in-Err-OutOfMemory-clause-runs : goal.returns-in-Err-OutOfMemory-clause-runs
 returns-in-Err-OutOfMemory-clause-runs g c pairs disk keeps entry later =
     let end = c.end_session-in-Err-OutOfMemory in
     let told = c.in-Err-OutOfMemory.ensures.err in
     run_short g.D.Disk.content g.D.Disk.faults c.args.statements.now disk c.answer_all.new.session pairs entry (shown_of end.result.1) end.result.1.end end.result.0 end.ensures.disk
-    (vec_len c.answer_all.new.replies) c.answer_all.new.replies.items told.0 (told.1 pairs keeps) end.ensures.end (end.ensures.shown ∙ ap Some c.pad.ensures) (c.in-Err-OutOfMemory.ensures.memory c.in-Err-OutOfMemory.field-0-is pairs keeps)
+    (vec_len c.answer_all.new.replies) c.answer_all.new.replies.items told.0 (told.1 pairs keeps) end.ensures.end (stands_short (g.D.Disk.faults (disk_of c.args.session.writer)) (g.D.Disk.faults (disk_of c.answer_all.new.session.writer)) c.in-Err-OutOfMemory.field-0 c.in-Err-OutOfMemory.field-0-is c.in-Err-OutOfMemory.ensures.still ∙ later) (end.ensures.shown ∙ ap Some c.pad.ensures) (c.in-Err-OutOfMemory.ensures.memory c.in-Err-OutOfMemory.field-0-is pairs keeps)
 
 pub returns-in-Err-Disk-clause-runs : goal.returns-in-Err-Disk-clause-runs
 returns-in-Err-Disk-clause-runs g c pairs disk keeps entry later =
@@ -29,7 +29,7 @@ returns-in-Err-Disk-clause-runs g c pairs disk keeps entry later =
     let faults = g.D.Disk.faults in
     run_failed g.D.Disk.content faults c.args.statements.now disk c.answer_all.new.session pairs entry (shown_of end.result.1) end.result.1.end end.result.0 end.ensures.disk
     (vec_len c.answer_all.new.replies) c.answer_all.new.replies.items told.0 (told.1 pairs keeps) c.in-Err-Disk.file end.ensures.end (end.ensures.shown ∙ ap Some c.pad-in-Err-Disk.ensures) fault.0
-    (rose_later (faults disk) (faults (disk_of c.args.session.writer)) (faults (disk_of c.answer_all.new.session.writer)) later fault.1)
+    (rose_later (faults disk) (faults (disk_of c.args.session.writer)) (faults (disk_of c.answer_all.new.session.writer)) (omega (arith, later)) fault.1)
 
 pub returns-in-Ok-clause-survives : goal.returns-in-Ok-clause-survives
 returns-in-Ok-clause-survives g c pairs disk bytes secures entry opened =

@@ -1,4 +1,4 @@
-use Rattle.std.proofs.Common.{inr, [], refl, sym, subst, arith}
+use Rattle.std.proofs.Common.{inr, [], refl, sym, ◌∙◌, subst, arith}
 use Rattle.std.specs.Option.{ForSome}
 use Rattle.disk_core.specs.Crash.{LeavesOnly}
 use Rattle.disk_core.proofs.Moments.{weaker}
@@ -23,7 +23,7 @@ returns-in-Ok-NotOpen-clause-begun g c =
       [],
       begun.0,
       λ bytes told. inr (shut bytes told, refl),
-      omega (arith, c.read_log.ensures.later, begun.1),
+      begun.1 ∙ c.in-Ok-NotOpen.ensures.still,
       λ bytes quiet.
           let still = quiet_still D.content D.may_leave D.moment D.left_since disk mid mid bytes quiet c.read_log.ensures.crash c.read_log.ensures.same in
           let after = secures bytes still (shut bytes quiet.0) in
