@@ -1,5 +1,5 @@
 -- A disk in memory, whose calls fail where they are named or find too little room.
-use Rattle.std.specs.Prelude.{ℕ, ◌+◌, ◌-◌, ◌*◌, ◌^◌, min, List, [], ◌∷◌, length, Result, Ok, Err, is_ok, is_err, nat_le, if◌then◌else◌}
+use Rattle.std.specs.Prelude.{ℕ, ◌+◌, ◌-◌, ◌*◌, List, [], ◌∷◌, length, Result, Ok, Err, is_ok, is_err, nat_le, if◌then◌else◌}
 use Rattle.causes.specs.Causes.{one_more}
 use Rattle.disk_core.specs.History.{Change, Wrote, Tried, Synced, content_after, MayLeave, LeftSince}
 use Rattle.disk_core.specs.Places.{at_sync}

@@ -10,8 +10,8 @@ use std::fs::File;
 use std::marker::Model;
 use std::os::unix::fs::FileExt;
 
-/// A file of the system, read and written at places. A call that a signal interrupts is made again, and one that
-/// reads or writes a part is gone on with.
+/// A file of the system, read and written at places. A read, a write or a sync that a signal interrupts is made again,
+/// and one that reads or writes a part is gone on with.
 #[derive(Drop)]
 pub struct FileDisk {
     file: Option<File>,

@@ -7,8 +7,6 @@ mod history;
 mod memory;
 mod store;
 mod tear;
-#[cfg(test)]
-mod tests;
 
 pub use causes::{Failed, OutOfMemory};
 pub use disk::Disk;

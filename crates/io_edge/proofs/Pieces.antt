@@ -1,8 +1,8 @@
 -- What a source in memory gives.
-use Rattle.std.proofs.Common.{◌≡◌, ℕ, ◌+◌, ◌-◌, ◌<◌, ◌≤◌, min, List, [], ◌++◌, length, take, drop, refl, sym, ◌∙◌, ap, arith}
+use Rattle.std.proofs.Common.{◌≡◌, ℕ, ◌+◌, ◌-◌, ◌≤◌, min, List, ◌++◌, length, take, drop, refl, ◌∙◌, arith}
 use Rattle.std.proofs.lemmas.List.{length-drop, length-append, length-take, take-append-le, take_all, drop_all, drop-drop}
 use Rattle.std.proofs.Math.Seq.{take-add}
-use Rattle.io_edge.specs.Content.{Content, Gives}
+use Rattle.io_edge.specs.Content.{Gives}
 
 module _ (bytes into : List ℕ) (at n : ℕ) (inside : at ≤ length bytes) (most : n ≡ min (length into) (length bytes - at)) where
   copied : length (take n (drop at bytes)) ≡ n

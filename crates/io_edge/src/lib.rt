@@ -5,8 +5,6 @@ mod memory;
 mod sink;
 mod source;
 mod standard;
-#[cfg(test)]
-mod tests;
 mod word;
 
 pub use causes::{Failed, OutOfMemory};

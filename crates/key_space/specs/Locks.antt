@@ -12,13 +12,16 @@ use Rattle.key_space.specs.Ranges.{shares, covers}
 abbrev pub IsOfKeys : Held → Type 0
 IsOfKeys h = h.name.range.lo ≤ h.name.range.hi
 
+-- the mode is Exclusive
 abbrev pub is_exclusive : Mode → Bool
 is_exclusive Shared = false
 is_exclusive Exclusive = true
 
+-- one session holds or asks for both
 abbrev pub has_same_owner : Held → Held → Bool
 has_same_owner a b = a.who == b.who
 
+-- both are locks of one table
 abbrev pub has_same_table : Held → Held → Bool
 has_same_table a b = a.name.table == b.name.table
 
@@ -44,6 +47,7 @@ abbrev pub least : List ℕ → Option ℕ
 least [] = None
 least (n ∷ numbers) = Some (fold min n numbers)
 
+-- the least session number of those whose lock passes a test
 abbrev pub least_owner : (Held → Bool) → List Held → Option ℕ
 least_owner test held = least (map (λ h. h.who) (filter test held))
 
@@ -51,12 +55,12 @@ least_owner test held = least (map (λ h. h.who) (filter test held))
 abbrev pub own_count : Held → List Held → ℕ
 own_count ask held = length (filter (λ h. has_same_owner h ask) held)
 
+-- the verdict because of that session, where there is one, else the other
 abbrev pub or_else : Option ℕ → (ℕ → Verdict) → Verdict → Verdict
 or_else None because other = other
 or_else (Some holder) because other = because holder
 
--- The answer, by the first of these that applies: an own lock covers the request; an older transaction is in the
--- way; another is in the way; the asker holds 1,024 locks; else it is granted.
+-- The answer, by the first that applies: an own lock covers the request; an older transaction is in the way; another is; the asker holds 1,024 locks; else it is granted.
 abbrev pub verdict_of : List Held → Held → Verdict
 verdict_of held ask =
     if list_any (covers_ask ask) held then Granted
@@ -64,6 +68,7 @@ verdict_of held ask =
     (or_else (least_owner (in_the_way false ask) held) Wait
     (if nat_le 1024 (own_count ask held) then Full (own_count ask held) 1024 else Granted)))
 
+-- the request is granted
 abbrev pub is_granted : Verdict → Bool
 is_granted Granted = true
 is_granted (Wait holder) = false

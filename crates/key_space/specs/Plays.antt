@@ -6,6 +6,7 @@ use Rattle.row_types.specs.Slot.{IsRowOf}
 use Rattle.row_types.specs.Keys.{row_key}
 use Rattle.row_types.specs.Tables.{TableRows, Tables}
 
+-- the rows of a table, each a list of its values
 abbrev pub Rows : Type 0
 Rows = List (List Value)
 

@@ -5,8 +5,6 @@ mod key;
 mod laws;
 mod lock;
 mod range;
-#[cfg(test)]
-mod tests;
 
 pub use key::{Key, key_of};
 pub use laws::{

@@ -5,8 +5,8 @@ use Rattle.std.specs.Int.{w16, w64, to_le_bytes}
 use Rattle.disk_core.specs.Crash.{Only, Tears}
 use Rattle.disk_core.specs.Device.{written}
 use Rattle.disk_core.proofs.Lone.{lone_write}
-use Rattle.lane_format.specs.Lane.{lane_text, IsLane, emptied, extended, frame_text}
-use Rattle.lane_format.specs.Crash.{IsNotOpen, NotOpenOrEmpty, TornFrom, WithOrWithout}
+use Rattle.lane_format.specs.Lane.{IsLane, IsNotOpen, emptied, extended, frame_text, lane_text}
+use Rattle.lane_format.specs.Crash.{NotOpenOrEmpty, TornFrom, WithOrWithout}
 use Rattle.lane_format.proofs.Lanes.{empty_lane, gate_inside, grown}
 use Rattle.lane_format.proofs.Writes.{header_then_gate}
 

@@ -1,15 +1,7 @@
 -- What a crash leaves of a lane file.
-use Rattle.std.specs.Prelude.{◌≡◌, ◌⊎◌, ℕ, List, [], ◌∷◌, ◌++◌, slice_index, Option, IsSome}
+use Rattle.std.specs.Prelude.{◌⊎◌, ℕ, List, [], ◌∷◌, ◌++◌, Option, IsSome}
 use Rattle.disk_core.specs.Crash.{Tears}
-use Rattle.lane_format.specs.Lane.{IsLane}
-
--- the file is open: its first byte is 1
-abbrev pub IsOpen : List ℕ → Type 0
-IsOpen bytes = slice_index bytes 0 ≡ 1
-
--- the file isn't open: its first byte is another, or it has none
-abbrev pub IsNotOpen : List ℕ → Type 0
-IsNotOpen bytes = ¬ (IsOpen bytes)
+use Rattle.lane_format.specs.Lane.{IsLane, IsNotOpen}
 
 -- an open lane with these batches, or with this one behind them
 abbrev pub WithOrWithout : ℕ → ℕ → List (List ℕ) → List ℕ → List ℕ → Type 0

@@ -1,7 +1,15 @@
--- The text of a lane file: a header, batches one after the other, and behind them a gate that isn't open.
-use Rattle.std.specs.Prelude.{◌≡◌, ◌≢◌, ℕ, ◌+◌, ◌-◌, List, [], ◌∷◌, ◌++◌, length, take, drop}
+-- The text of a lane file: a header, batches one after the other, and behind them a gate that isn't open; and when a file is open at all.
+use Rattle.std.specs.Prelude.{◌≡◌, ◌≢◌, ℕ, ◌+◌, ◌-◌, List, [], ◌∷◌, ◌++◌, length, slice_index, take, drop}
 use Rattle.std.specs.List.{flat_map}
 use Rattle.std.specs.Int.{w16, w32, w64, to_le_bytes}
+
+-- the file is open: its first byte is 1
+abbrev pub IsOpen : List ℕ → Type 0
+IsOpen bytes = slice_index bytes 0 ≡ 1
+
+-- the file isn't open: its first byte is another, or it has none
+abbrev pub IsNotOpen : List ℕ → Type 0
+IsNotOpen bytes = ¬ (IsOpen bytes)
 
 -- the header: an open gate, the generation and the lane's number
 unfoldable pub header_text : ℕ → ℕ → List ℕ

@@ -3,8 +3,6 @@
 
 mod frame;
 mod steps;
-#[cfg(test)]
-mod tests;
 mod writer;
 
 pub use disk_core::{Disk, Failed, FileName};

@@ -6,8 +6,8 @@ ghost use Rattle.std.specs.Int.{w16, w64, to_le_bytes};
 ghost use Rattle.causes.specs.Causes.{HasCause};
 ghost use Rattle.disk_core.specs.Crash.{Follows, LeavesOnly, NothingPending, Tears};
 ghost use Rattle.disk_core.specs.Device.{written};
-ghost use Rattle.lane_format.specs.Crash.{IsNotOpen, LeavesNow, NotOpenOrEmpty, OldOrNotOpen, TornFrom, WithOrWithout};
-ghost use Rattle.lane_format.specs.Lane.{IsLane, emptied, extended, frame_text, lane_text, shut};
+ghost use Rattle.lane_format.specs.Crash.{LeavesNow, NotOpenOrEmpty, OldOrNotOpen, TornFrom, WithOrWithout};
+ghost use Rattle.lane_format.specs.Lane.{IsLane, IsNotOpen, emptied, extended, frame_text, lane_text, shut};
 
 use disk_core::{Disk, Failed};
 

@@ -40,8 +40,8 @@ impl<D: Disk> LaneWriter<D> {
     ghost use Rattle.disk_core.specs.declared.store.FileName.{FileName};
     ghost use Rattle.std.specs.Option.{ForSome, option_map};
     ghost use Rattle.disk_core.specs.Crash.{LeavesOnly};
-    ghost use Rattle.lane_format.specs.Crash.{IsNotOpen, LeavesNow, NotOpenOrEmpty, OldOrNotOpen, WithOrWithout};
-    ghost use Rattle.lane_format.specs.Lane.{IsLane, body_of, lane_text, shut};
+    ghost use Rattle.lane_format.specs.Crash.{LeavesNow, NotOpenOrEmpty, OldOrNotOpen, WithOrWithout};
+    ghost use Rattle.lane_format.specs.Lane.{IsLane, IsNotOpen, body_of, lane_text, shut};
     ghost use Rattle.lane_format.specs.Writer.{Holds, IsFailed, IsNear, IsSettled, IsShut, KeepsFault, even_file, disk_of, lane_of, stage_of};
 
     /// Takes over a file of which nothing is known: it has to be closed first.

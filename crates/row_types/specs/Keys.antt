@@ -3,6 +3,7 @@ use Rattle.std.specs.Prelude.{ℕ, suc, ◌+◌, ◌-◌, ◌^◌, ℤ, pos, neg
 use Rattle.row_types.specs.declared.row.Value.{Value}
 use Rattle.row_types.specs.declared.row.Value.TheVariants as value
 
+-- the whole number that a value is, 0 for a text and for none
 abbrev pub int_of : Option Value → ℤ
 int_of None = pos 0
 int_of (Some (value.Int number)) = number

@@ -25,6 +25,7 @@ abbrev pub slot_value : List Column → List ℕ → Option (List Value)
 slot_value columns [] = None
 slot_value columns (tag ∷ bytes) = if tag == 0 then None else Some (cells_values columns bytes)
 
+-- what a slot holds, or the place of its fault where it has one
 abbrev pub unless_fault : Option ℕ → Option (List Value) → Result (Option (List Value)) SlotFault
 unless_fault None held = Ok held
 unless_fault (Some at) held = Err (BadSlot at)

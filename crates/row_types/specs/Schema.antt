@@ -25,6 +25,7 @@ abbrev pub doubled_from : ℕ → List Column → List Column → Option ℕ
 doubled_from n before [] = None
 doubled_from n before (c ∷ columns) = if has_column before c.name then Some n else doubled_from (n + 1) (before ++ c ∷ []) columns
 
+-- a column of this kind holds whole numbers
 abbrev pub is_int : Kind → Bool
 is_int kind.Int = true
 is_int (kind.Text limit) = false
@@ -54,6 +55,7 @@ refusal tables def =
     (option_or (refused_if (not (has_int_key def.columns def.keys)) NoKey)
     (refused_if (nat_lt 4096 (slot_len def.columns)) (TooWide (slot_len def.columns)))))))
 
+-- the table is accepted, unless there is a refusal
 abbrev pub ok_unless : Option SchemaFault → Result (Unit {0}) SchemaFault
 ok_unless None = Ok tt
 ok_unless (Some fault) = Err fault
@@ -85,6 +87,7 @@ pub record IsSchema (tables : List TableDef) : Type 0 where
   pub named : AllByRecursion IsNamed tables
   pub accepted : AreAccepted [] tables
 
+-- the columns of a table, where there is one
 abbrev pub columns_of : Option TableDef → List Column
 columns_of None = []
 columns_of (Some def) = def.columns
@@ -93,6 +96,7 @@ columns_of (Some def) = def.columns
 abbrev pub columns_at : List TableDef → ℕ → List Column
 columns_at tables n = columns_of (slice_get tables n)
 
+-- the numbers of the key columns of a table, where there is one
 abbrev pub keys_of : Option TableDef → List ℕ
 keys_of None = []
 keys_of (Some def) = def.keys

@@ -10,20 +10,23 @@ use Rattle.row_types.specs.declared.schema_text.ReadError.{ReadError}
 use Rattle.row_types.specs.declared.schema_text.ReadError.TheVariants as errors
 use Rattle.row_types.specs.Schema.{refusal}
 
+-- what was read goes on to be read, or nothing was read
 infixl 10 ◌>>=◌
 abbrev pub ◌>>=◌ : {A B : Type 0} → Option A → (A → Option B) → Option B
 None >>= f = None
 (Some x) >>= f = f x
 
--- what a function returned, seen by view, is what reading gives, unless memory ran out
+-- the failure of a reading: memory ran out, or nothing is read
 abbrev pub Fails : {Y : Type 0} → ReadError → Option Y → Type 0
 Fails errors.Memory read = Unit {0}
 Fails errors.Invalid read = read ≡ None
 
+-- what a function returned, seen by view, is what reading gives, unless memory ran out
 abbrev pub Gives : {X Y : Type 0} → (X → Y) → Result X ReadError → Option Y → Type 0
 Gives view (Ok x) read = read ≡ Some (view x)
 Gives view (Err e) read = Fails e read
 
+-- a byte
 abbrev pub byte_at : List ℕ → Option (ℕ × List ℕ)
 byte_at [] = None
 byte_at (b ∷ bytes) = Some (b, bytes)
@@ -32,25 +35,30 @@ byte_at (b ∷ bytes) = Some (b, bytes)
 abbrev pub is_name : List ℕ → Bool
 is_name bytes = is_utf8 bytes && (nat_le 1 (length bytes) && nat_le (length bytes) 32)
 
+-- a name: a byte with its length, and so many bytes that are a name
 unfoldable pub name_at : List ℕ → Option (List ℕ × List ℕ)
 name_at bytes = do
   n ← byte_at bytes
   if nat_lt (length n.1) n.0 then None else (if is_name (take n.0 n.1) then Some (take n.0 n.1, drop n.0 n.1) else None)
 
+-- the limit of a text, in two bytes
 abbrev pub limit_at : List ℕ → Option (Kind × List ℕ)
 limit_at bytes = if nat_lt (length bytes) 2 then None else Some (kind.Text (from_le_bytes w16 (take 2 bytes)), drop 2 bytes)
 
+-- a kind: 1 for whole numbers; 2 and the limit for texts
 unfoldable pub kind_at : List ℕ → Option (Kind × List ℕ)
 kind_at bytes = do
   b ← byte_at bytes
   if b.0 == 1 then Some (kind.Int, b.1) else (if b.0 == 2 then limit_at b.1 else None)
 
+-- a column: its name and its kind
 unfoldable pub column_at : List ℕ → Option (Column × List ℕ)
 column_at bytes = do
   name ← name_at bytes
   kind ← kind_at name.1
   Some (record { name = name.0; kind = kind.0 }, kind.1)
 
+-- so many columns
 unfoldable pub columns_from : ℕ → List ℕ → Option (List Column × List ℕ)
 columns_from zero bytes = Some ([], bytes)
 columns_from (suc n) bytes = do
@@ -58,6 +66,7 @@ columns_from (suc n) bytes = do
   others ← columns_from n first.1
   Some (first.0 ∷ others.0, others.1)
 
+-- a definition: the name, how many columns, the number of the key column, and the columns
 unfoldable pub table_at : List ℕ → Option (TableDef × List ℕ)
 table_at bytes = do
   name ← name_at bytes

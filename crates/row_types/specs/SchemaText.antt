@@ -16,6 +16,7 @@ abbrev pub kind_text : Kind → List ℕ
 kind_text kind.Int = 1 ∷ []
 kind_text (kind.Text limit) = 2 ∷ to_le_bytes w16 limit
 
+-- the name of a column and its kind
 abbrev pub column_text : Column → List ℕ
 column_text c = name_text c.name ++ kind_text c.kind
 

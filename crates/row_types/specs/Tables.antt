@@ -25,6 +25,7 @@ pub record IsTableRows (table : TableRows) : Type 0 where
   pub fits : AllByRecursion (IsRowOf table.def.columns) table.rows
   pub rising : AreRising (map (row_key table.def.keys) table.rows)
 
+-- the rows of each table fit its definition, and their keys rise
 abbrev pub AreTables : Tables → Type 0
 AreTables tables = AllByRecursion IsTableRows tables
 

@@ -9,8 +9,6 @@ mod schema;
 mod schema_slots;
 mod schema_text;
 mod slot;
-#[cfg(test)]
-mod tests;
 mod text;
 
 pub use block::{Block, Piece2, Pieces};

@@ -10,8 +10,8 @@ use Rattle.std.proofs.lemmas.Grind.{flat_map-append}
 use Rattle.std.proofs.lemmas.Bool.{cases_eq}
 use Rattle.lane_format.specs.Lane.{batch_text, header_text}
 use Rattle.shell.specs.Keeping.{IsMapOf}
-use Rattle.shell.specs.Kv.{Pairs, pair_body, value_of}
-use Rattle.shell.specs.Log.{Breaks, FitsPair, MayBeLogged, gate_place, last_end, log_text}
+use Rattle.shell.specs.Kv.{FitsPair, Pairs, pair_body, value_of}
+use Rattle.shell.specs.Log.{Breaks, MayBeLogged, gate_place, last_end, log_text}
 use Rattle.shell.specs.Log.{CutShort, NoGate, OtherLength, SameKey, TooLate}
 use Rattle.shell.specs.Opening.{Adds, HasClosedGate, Stands, batches_text}
 use Rattle.shell.specs.declared.reading.Front.{Front}

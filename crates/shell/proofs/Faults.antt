@@ -1,6 +1,5 @@
 -- A lane that hasn't failed tells a fault only where its disk's count rose.
-use Rattle.std.proofs.Common.{◌≡◌, ◌≢◌, ℕ, ◌≤◌, Result, Ok, Err, OnErr, IsErrAnd, arith, refl, ◌∙◌, subst, sym}
-use Rattle.std.specs.Bool.{⊤}
+use Rattle.std.proofs.Common.{◌≡◌, ◌≢◌, ℕ, ◌≤◌, Result, Ok, Err, OnErr, IsErrAnd, arith, refl, ◌∙◌, sym}
 use Rattle.causes.specs.Causes.{Rose}
 use Rattle.disk_core.specs.declared.store.FileName.{FileName}
 use Rattle.lane_format.specs.Writer.{KeepsFault, disk_of, stage_of}

@@ -8,7 +8,7 @@ use Rattle.shell.specs.Keeping.{Secures}
 use Rattle.shell.specs.Kv.{Pairs, pairs_after, pairs_after_all}
 use Rattle.shell.specs.Log.{BeginsWith, IsLogOf}
 use Rattle.shell.specs.Outcome.{CannotOpen, StopsAt}
-use Rattle.shell.specs.Survival.{HasFirst, IsQuiet, LeftUnbegun, Outlasts, Survives, WithOrWithout}
+use Rattle.shell.specs.Survival.{HasFirst, IsQuiet, LeftUnbegun, Outlasts, Survives, BeforeOrAfter}
 use Rattle.shell.proofs.Answering.{pairs_after_all-push}
 use Rattle.shell.specs.declared.end.End.{End}
 use Rattle.shell.specs.declared.end.End.TheVariants as end
@@ -39,11 +39,11 @@ module _ {D : Type 0} (content : D → Option (List ℕ)) (may_leave : D → Lis
   }
 
   module _ (start before now : Session D) (statements : List Statement) (n : ℕ) (s : Statement) (more : take (n + 1) statements ≡ take n statements ++ s ∷ []) (lasted : Lasted content may_leave moment left_since start before statements n)
-      (moments : (pairs : Pairs) → Secures content may_leave before pairs → LeavesOnly moment left_since (disk_of before.writer) (disk_of now.writer) (WithOrWithout pairs s)) where
+      (moments : (pairs : Pairs) → Secures content may_leave before pairs → LeavesOnly moment left_since (disk_of before.writer) (disk_of now.writer) (BeforeOrAfter pairs s)) where
     after_is : (pairs : Pairs) → pairs_after (pairs_after_all pairs (take n statements)) s ≡ pairs_after_all pairs (take (n + 1) statements)
     after_is pairs = sym (pairs_after_all-push pairs (take n statements) s) ∙ ap (pairs_after_all pairs) (sym more)
 
-    either_first : (pairs : Pairs) (least : ℕ) (image : List ℕ) → least ≤ n → WithOrWithout (pairs_after_all pairs (take n statements)) s image → HasFirst pairs statements least (n + 1) image
+    either_first : (pairs : Pairs) (least : ℕ) (image : List ℕ) → least ≤ n → BeforeOrAfter (pairs_after_all pairs (take n statements)) s image → HasFirst pairs statements least (n + 1) image
     either_first pairs least image low (inl is) = has_first pairs statements least n (n + 1) image low (omega arith) is
     either_first pairs least image low (inr is) = has_first pairs statements least (n + 1) (n + 1) image (omega (arith, low)) (omega arith) (subst (λ (l : Pairs). IsLogOf l image) (after_is pairs) is)
 
@@ -53,7 +53,7 @@ module _ {D : Type 0} (content : D → Option (List ℕ)) (may_leave : D → Lis
         let so_far = lasted.each pairs secures in
         joined moment left_since (disk_of start.writer) (disk_of before.writer) (disk_of now.writer) (HasFirst pairs statements 0 (n + 1))
         (weaker moment left_since (disk_of start.writer) (disk_of before.writer) (HasFirst pairs statements 0 n) (HasFirst pairs statements 0 (n + 1)) (λ image has. more_tried pairs statements 0 n (n + 1) image (omega arith) has) so_far.1)
-        (weaker moment left_since (disk_of before.writer) (disk_of now.writer) (WithOrWithout (pairs_after_all pairs (take n statements)) s) (HasFirst pairs statements 0 (n + 1)) (λ image either. either_first pairs 0 image (omega arith) either) (moments (pairs_after_all pairs (take n statements)) so_far.0))
+        (weaker moment left_since (disk_of before.writer) (disk_of now.writer) (BeforeOrAfter (pairs_after_all pairs (take n statements)) s) (HasFirst pairs statements 0 (n + 1)) (λ image either. either_first pairs 0 image (omega arith) either) (moments (pairs_after_all pairs (take n statements)) so_far.0))
 
     -- it was answered
     pub one_more_lasted : ((pairs : Pairs) → Secures content may_leave before pairs → Secures content may_leave now (pairs_after pairs s)) → Lasted content may_leave moment left_since start now statements (n + 1)
@@ -64,7 +64,7 @@ module _ {D : Type 0} (content : D → Option (List ℕ)) (may_leave : D → Lis
     }
 
     -- it wasn't
-    pub stopped_there : ((pairs : Pairs) → Secures content may_leave before pairs → LeavesNow content may_leave (disk_of now.writer) (WithOrWithout pairs s)) → (pairs : Pairs) → Secures content may_leave start pairs
+    pub stopped_there : ((pairs : Pairs) → Secures content may_leave before pairs → LeavesNow content may_leave (disk_of now.writer) (BeforeOrAfter pairs s)) → (pairs : Pairs) → Secures content may_leave start pairs
         → Outlasts may_leave moment left_since pairs statements n (n + 1) (disk_of start.writer) (disk_of now.writer)
     stopped_there crash pairs secures = record {
       moments = tried_moments pairs secures;

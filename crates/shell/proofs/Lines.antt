@@ -4,7 +4,7 @@ use Rattle.std.proofs.lemmas.List.{append_assoc, append-nil, length-append}
 use Rattle.std.proofs.lemmas.Grind.{flat_map-append}
 use Rattle.std.specs.List.{AllByRecursion, flat_map}
 use Rattle.shell.specs.Script.{Fits, statement_text}
-use Rattle.shell.specs.Session.{LinesSoFar}
+use Rattle.shell.specs.ReadScript.{LinesSoFar}
 use Rattle.shell.specs.declared.statement.Statement.{Statement}
 use Rattle.shell.specs.declared.statement.Statement.TheVariants.{Insert, Select}
 

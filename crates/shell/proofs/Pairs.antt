@@ -1,14 +1,15 @@
 -- How the pairs change by an insert, in the plain list, in the map and in the log file.
-use Rattle.std.proofs.Common.{◌≡◌, ◌⊎◌, inl, inr, ℕ, ◌+◌, ◌<◌, ◌≤◌, ℤ, Bool, true, false, cond, List, [], ◌∷◌, ◌++◌, length, map, Option, Some, None, is_some, refl, sym, ◌∙◌, ap, subst, arith, Decides, int_cmp}
+use Rattle.std.proofs.Common.{◌≡◌, ◌⊎◌, inl, inr, ℕ, ◌+◌, ◌<◌, ◌≤◌, ℤ, Bool, true, false, cond, List, [], ◌∷◌, ◌++◌, length, map, Option, Some, None, is_some, FitsSigned, w64, to_z, of_z, refl, sym, ◌∙◌, ap, subst, arith, Decides, int_cmp}
 use Rattle.std.specs.Ordering.{int_eq}
 use Rattle.std.specs.BTreeMap.{BTreeMap, get, btree_map_len}
 use Rattle.std.proofs.lemmas.Bool.Decides.{Decides-int_eq, nat_tests}
+use Rattle.std.proofs.lemmas.Int.{to_z-of_z}
 use Rattle.std.proofs.lemmas.List.{length-append, map-append}
 use Rattle.lane_format.specs.Writer.{Holds, lane_of, stage_of}
 use Rattle.lane_format.specs.declared.writer.Stage.TheVariants.{Open}
-use Rattle.shell.specs.Kv.{Pairs, value_of, used_bytes, is_full, reply_to, pairs_after, pair_body}
+use Rattle.shell.specs.Kv.{FitsPair, Pairs, is_full, log_limit, pair_body, pairs_after, reply_to, used_bytes, value_of}
 use Rattle.shell.specs.Keeping.{IsMapOf, Keeps}
-use Rattle.shell.specs.Log.{FitsPair, MayBeLogged, NoKeyTwice, gate_place, last_end}
+use Rattle.shell.specs.Log.{MayBeLogged, NoKeyTwice, gate_place, last_end}
 use Rattle.shell.proofs.Lines.{all_push}
 use Rattle.shell.specs.declared.reply.Reply.TheVariants.{Inserted, LogFull}
 use Rattle.shell.specs.declared.statement.Statement.TheVariants.{Insert}
@@ -50,6 +51,15 @@ value_of-push (pair ∷ pairs) key value q absent =
       | inr other ↦ rw other.1 step
     ]
 
+-- a map tells whether its pairs have a key
+pub has_key : (table : BTreeMap ℤ ℤ) (pairs : Pairs) (key : ℤ) (found there : Bool) → IsMapOf table pairs → FitsSigned w64 key → found ≡ is_some (get int_cmp table (to_z w64 (of_z w64 key))) → found ≡ there → is_some (value_of pairs key) ≡ there
+has_key table pairs key found there is fits tells same =
+    ap is_some (sym (is.same key)) ∙ ap (λ (z : ℤ). is_some (get int_cmp table z)) (sym (to_z-of_z w64 key fits)) ∙ sym tells ∙ same
+
+-- numbers of 64 bits come back as they were
+pub same_pair : (key value : ℤ) → FitsPair (key, value) → ◌≡◌ {A = ℤ × ℤ} (to_z w64 (of_z w64 key), to_z w64 (of_z w64 value)) (key, value)
+same_pair key value fits = ap (λ (z : ℤ). (z, to_z w64 (of_z w64 value))) (to_z-of_z w64 key fits.0) ∙ ap (λ (z : ℤ). (key, z)) (to_z-of_z w64 value fits.1)
+
 pub none_there : (o : Option ℤ) → is_some o ≡ false → o ≡ None
 none_there None is = refl
 none_there (Some x) is = absurd (cc)
@@ -79,19 +89,19 @@ map-push old new pairs key value absent updates count is = record {
 
 module _ {D : Type 0} (content : D → Option (List ℕ)) (old : Session D) (pairs : Pairs) (key value : ℤ) (keeps : Keeps content old pairs) (absent : is_some (value_of pairs key) ≡ false) where
   -- an insert is refused where the log file is full
-  pub log_full : 66846592 < used_bytes pairs → (LogFull (used_bytes pairs) ≡ reply_to pairs (Insert key value)) × (pairs ≡ pairs_after pairs (Insert key value))
+  pub log_full : log_limit < used_bytes pairs → (LogFull (used_bytes pairs) ≡ reply_to pairs (Insert key value)) × (pairs ≡ pairs_after pairs (Insert key value))
   log_full full =
       let test : is_full pairs ≡ true = grind (arith, nat_tests) in
       (rw (absent, test) refl, rw (absent, test) refl)
 
   -- an insert is accepted where it isn't
-  pub accepted : used_bytes pairs ≤ 66846592 → (Inserted ≡ reply_to pairs (Insert key value)) × (pairs ++ (key, value) ∷ [] ≡ pairs_after pairs (Insert key value))
+  pub accepted : used_bytes pairs ≤ log_limit → (Inserted ≡ reply_to pairs (Insert key value)) × (pairs ++ (key, value) ∷ [] ≡ pairs_after pairs (Insert key value))
   accepted room =
       let test : is_full pairs ≡ false = grind (arith, nat_tests) in
       (rw (absent, test) refl, rw (absent, test) refl)
 
   -- and then the session keeps one pair more
-  pub one_pair_more : (new : Session D) → FitsPair (key, value) → used_bytes pairs ≤ 66846592 → ((q : ℤ) → get int_cmp new.pairs q ≡ cond (int_eq key q) (Some value) (get int_cmp old.pairs q)) → btree_map_len new.pairs ≡ btree_map_len old.pairs + 1
+  pub one_pair_more : (new : Session D) → FitsPair (key, value) → used_bytes pairs ≤ log_limit → ((q : ℤ) → get int_cmp new.pairs q ≡ cond (int_eq key q) (Some value) (get int_cmp old.pairs q)) → btree_map_len new.pairs ≡ btree_map_len old.pairs + 1
       → lane_of new.writer ≡ lane_of old.writer → stage_of new.writer ≡ Open 2 (gate_place (length pairs) + 21) → Holds content new.writer 2 (map pair_body pairs ++ pair_body (key, value) ∷ []) → Keeps content new (pairs ++ (key, value) ∷ [])
   one_pair_more new fits room updates count lane stage file =
       let none = none_there (value_of pairs key) absent in

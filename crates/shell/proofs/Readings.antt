@@ -6,10 +6,9 @@ use Rattle.std.proofs.Math.Facts.{Fits-of_z}
 use Rattle.std.proofs.lemmas.Int.{to_z-of_z}
 use Rattle.std.proofs.lemmas.Nat.{from_le_bytes-to_le_bytes_8}
 use Rattle.std.proofs.lemmas.List.{append_cancel_left, take_at, drop_at, length-append, append-nil}
-use Rattle.lane_format.specs.Lane.{batch_text, header_text}
-use Rattle.shell.specs.Kv.{Pairs, pair_body, value_of}
-use Rattle.lane_format.specs.Crash.{IsOpen}
-use Rattle.shell.specs.Log.{Breaks, FitsPair, IsDamaged, IsLogOf, LaneRead, MayBeLogged, NoKeyTwice, gate_place, lane_reads, last_end, log_text}
+use Rattle.lane_format.specs.Lane.{IsOpen, batch_text, header_text}
+use Rattle.shell.specs.Kv.{FitsPair, Pairs, pair_body, value_of}
+use Rattle.shell.specs.Log.{Breaks, IsDamaged, IsLogOf, LaneRead, MayBeLogged, NoKeyTwice, gate_place, lane_reads, last_end, log_text}
 use Rattle.shell.specs.Log.{Damaged, Holding, NotOpen, BreaksOff, OtherHead, Short, CutShort, NoGate, OtherLength, SameKey, TooLate}
 use Rattle.shell.specs.Opening.{batches_text}
 use Rattle.shell.proofs.Batches.{length-batch, length-header, length-log, log_text-append}

@@ -4,13 +4,13 @@ use Rattle.std.proofs.lemmas.List.{map-append}
 use Rattle.disk_core.specs.Crash.{LeavesOnly}
 use Rattle.disk_core.proofs.Moments.{joined, weaker}
 use Rattle.lane_format.specs.Crash.{LeavesNow}
-use Rattle.lane_format.specs.Crash.{WithOrWithout as EitherLane}
+use Rattle.lane_format.specs.Crash.{WithOrWithout}
 use Rattle.lane_format.specs.Lane.{IsLane}
 use Rattle.lane_format.specs.Writer.{IsSettled, disk_of, lane_of}
 use Rattle.shell.specs.Keeping.{Keeps, Secures}
-use Rattle.shell.specs.Kv.{Pairs, pair_body, pairs_after, used_bytes, value_of}
-use Rattle.shell.specs.Log.{FitsPair, IsLogOf, MayBeLogged}
-use Rattle.shell.specs.Survival.{IsQuiet, LeavesAsWas, WithOrWithout}
+use Rattle.shell.specs.Kv.{FitsPair, Pairs, log_limit, pair_body, pairs_after, used_bytes, value_of}
+use Rattle.shell.specs.Log.{IsLogOf, MayBeLogged}
+use Rattle.shell.specs.Survival.{IsQuiet, LeavesAsWas, BeforeOrAfter}
 use Rattle.shell.proofs.Pairs.{accepted, logged-push, none_there}
 use Rattle.shell.specs.declared.session.Session.{Session}
 use Rattle.shell.specs.declared.statement.Statement.TheVariants.{Insert}
@@ -62,10 +62,23 @@ module _ {D : Type 0} (content : D → Option (List ℕ)) (may_leave : D → Lis
   pub read_then : (P : List ℕ → Type 0) → P bytes → LeavesOnly moment left_since mid new P → LeavesOnly moment left_since old new P
   read_then P holds run = joined moment left_since old mid new P (weaker moment left_since old mid (may_leave old) P (λ image left. subst P (sym (quiet.1 image left)) holds) read.moments) run
 
-module _ {D : Type 0} (content : D → Option (List ℕ)) (old : Session D) (pairs : Pairs) (key value : ℤ) (keeps : Keeps content old pairs) (absent : is_some (value_of pairs key) ≡ false) (room : used_bytes pairs ≤ 66846592) (fits : FitsPair (key, value)) where
+module _ {D : Type 0} (content : D → Option (List ℕ)) (old : Session D) (pairs : Pairs) (key value : ℤ) (keeps : Keeps content old pairs) (absent : is_some (value_of pairs key) ≡ false) (room : used_bytes pairs ≤ log_limit) (fits : FitsPair (key, value)) where
   -- a crash in the force of a pair leaves the log with it or without
-  pub either_log : (image : List ℕ) → EitherLane 2 0 (map pair_body pairs) (pair_body (key, value)) image → WithOrWithout pairs (Insert key value) image
+  pub either_log : (image : List ℕ) → WithOrWithout 2 0 (map pair_body pairs) (pair_body (key, value)) image → BeforeOrAfter pairs (Insert key value) image
   either_log image (inl lane) = inl (record { logged = keeps.logged; lane = lane })
   either_log image (inr lane) =
       let logged = logged-push pairs key value (none_there (value_of pairs key) absent) fits (omega (arith, room)) keeps.logged in
       inr (subst (λ (l : Pairs). IsLogOf l image) (accepted content old pairs key value keeps absent room).1 (log_of_more pairs (key, value) image logged lane))
+
+  module _ (may_leave : D → List ℕ → Type 0) (moment : D → ℕ) (left_since : D → ℕ → List ℕ → Type 0) (new : D) (pair : ℤ × ℤ) (same : pair ≡ (key, value)) where
+    -- at each moment of the force
+    pub forced_moments : LeavesOnly moment left_since (disk_of old.writer) new (WithOrWithout 2 0 (map pair_body pairs) (pair_body pair)) → LeavesOnly moment left_since (disk_of old.writer) new (BeforeOrAfter pairs (Insert key value))
+    forced_moments forced =
+        let moments = subst (λ (p : ℤ × ℤ). LeavesOnly moment left_since (disk_of old.writer) new (WithOrWithout 2 0 (map pair_body pairs) (pair_body p))) same forced in
+        weaker moment left_since (disk_of old.writer) new (WithOrWithout 2 0 (map pair_body pairs) (pair_body (key, value))) (BeforeOrAfter pairs (Insert key value)) either_log moments
+
+    -- and behind it
+    pub forced_now : LeavesNow content may_leave new (WithOrWithout 2 0 (map pair_body pairs) (pair_body pair)) → LeavesNow content may_leave new (BeforeOrAfter pairs (Insert key value))
+    forced_now forced =
+        let now = subst (λ (p : ℤ × ℤ). LeavesNow content may_leave new (WithOrWithout 2 0 (map pair_body pairs) (pair_body p))) same forced in
+        now_too content may_leave new (WithOrWithout 2 0 (map pair_body pairs) (pair_body (key, value))) (BeforeOrAfter pairs (Insert key value)) either_log now

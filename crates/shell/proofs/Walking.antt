@@ -8,8 +8,8 @@ use Rattle.std.proofs.Math.Seq.{take-add}
 use Rattle.std.proofs.lemmas.Slice.Eq.{bytes_eq-Decides}
 use Rattle.std.specs.Str.{bytes_eq}
 use Rattle.lane_format.specs.Lane.{batch_text, header_text}
-use Rattle.shell.specs.Kv.{Pairs, pair_body, value_of}
-use Rattle.shell.specs.Log.{Breaks, FitsPair, LaneRead, MayBeLogged, gate_place, lane_reads, last_end, log_text}
+use Rattle.shell.specs.Kv.{FitsPair, Pairs, pair_body, value_of}
+use Rattle.shell.specs.Log.{Breaks, LaneRead, MayBeLogged, gate_place, lane_reads, last_end, log_text}
 use Rattle.shell.specs.Log.{Damaged, Holding, NotOpen, BreaksOff, OtherHead, Short, CutShort, NoGate, OtherLength, SameKey, TooLate}
 use Rattle.shell.proofs.Batches.{length-pair_body, log_text-append, number_bytes}
 use Rattle.shell.proofs.Pairs.{logged-push, none_there}

@@ -1,5 +1,5 @@
 -- What a word at the front of a text leaves.
-use Rattle.std.proofs.Common.{◌≡◌, ◌≢◌, ℕ, Bool, true, false, not, IsTrue, Decides, List, ◌++◌, Option, Some, None, MatchOption, IfSome, IsSomeAnd, Bor, Result, Ok, Err, IfOk, IfErr, IsErrAnd, OnErr, refl, sym, ◌∙◌, ap, subst}
+use Rattle.std.proofs.Common.{◌≡◌, ◌≢◌, ℕ, ℤ, Bool, true, false, not, IsTrue, Decides, List, ◌++◌, Option, Some, None, MatchOption, IfSome, IsSomeAnd, Bor, Result, Ok, Err, IfOk, IfErr, IsErrAnd, OnErr, refl, sym, ◌∙◌, ap, subst}
 use Rattle.std.proofs.lemmas.List.{append_cancel_left}
 
 module _ (text word : List ℕ) where
@@ -13,6 +13,14 @@ module _ (text word : List ℕ) where
   pub word_only : (r : Option (Bor (List ℕ))) (rest : List ℕ) → Stripped r → text ≡ word ++ rest → IsSomeAnd r (λ x. x.now ≡ rest)
   word_only None rest is begins = absurd (is rest begins)
   word_only (Some x) rest is begins = append_cancel_left word x.now rest (sym is ∙ begins)
+
+-- the text goes on so
+abbrev pub GoesOn : List ℕ → Bor (List ℕ) → Type 0
+GoesOn text x = x.now ≡ text
+
+-- this number was read, and the text goes on so
+abbrev pub IsNumber : ℤ → List ℕ → ℤ × Bor (List ℕ) → Type 0
+IsNumber number text x = (x.0 ≡ number) × (x.1.now ≡ text)
 
 -- what a call gave that gives something
 pub got : {A : Type 0} (P : A → Type 0) (r : Option A) (y : A) → IsSomeAnd r P → r ≡ Some y → P y

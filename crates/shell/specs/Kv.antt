@@ -1,5 +1,5 @@
 -- What the statements over the table kv reply and leave, over a plain list of pairs.
-use Rattle.std.specs.Prelude.{ℕ, ◌+◌, ◌*◌, nat_lt, ℤ, Bool, if◌then◌else◌, List, [], ◌∷◌, ◌++◌, length, Option, None, Some, is_some, ◌||◌}
+use Rattle.std.specs.Prelude.{ℕ, ◌+◌, ◌*◌, nat_lt, ℤ, FitsSigned, Bool, if◌then◌else◌, List, [], ◌∷◌, ◌++◌, length, Option, None, Some, is_some, ◌||◌}
 use Rattle.std.specs.Ordering.{int_eq}
 use Rattle.std.specs.Map.{lookup}
 use Rattle.std.specs.Int.{w64, to_le_bytes, cast_unsigned}
@@ -12,6 +12,10 @@ use Rattle.shell.specs.declared.reply.Reply.TheVariants.{Inserted, Duplicate, Lo
 abbrev pub Pairs : Type 0
 Pairs = List (ℤ × ℤ)
 
+-- the key and the value of a pair have 64 bits
+abbrev pub FitsPair : ℤ × ℤ → Type 0
+FitsPair pair = FitsSigned w64 pair.0 × FitsSigned w64 pair.1
+
 -- the value of a key, where there is one
 abbrev pub value_of : Pairs → ℤ → Option ℤ
 value_of pairs key = lookup (int_eq key) pairs
@@ -20,9 +24,13 @@ value_of pairs key = lookup (int_eq key) pairs
 abbrev pub used_bytes : Pairs → ℕ
 used_bytes pairs = 12 + 21 * length pairs
 
+-- a log file that uses more bytes than these takes no further pair
+abbrev pub log_limit : ℕ
+log_limit = 66846592
+
 -- no room is left in the log file
 abbrev pub is_full : Pairs → Bool
-is_full pairs = nat_lt 66846592 (used_bytes pairs)
+is_full pairs = nat_lt log_limit (used_bytes pairs)
 
 -- what a look-up replies
 abbrev pub found : ℤ → Option ℤ → Reply

@@ -3,7 +3,7 @@ pub mod Kv
 pub mod Printed
 pub mod Script
 pub mod Text
-pub mod Session
+pub mod ReadScript
 pub mod Keeping
 pub mod Outcome
 pub mod Log

@@ -1,14 +1,9 @@
 -- The log file of the pairs: which pairs it may hold, and what its bytes read as.
-use Rattle.std.specs.Prelude.{◌≡◌, ◌≢◌, ◌⊎◌, ℕ, ◌+◌, ◌*◌, ◌<◌, ◌≤◌, ℤ, true, FitsSigned, ⊤, List, [], ◌∷◌, ◌++◌, length, map, take, is_some, None}
+use Rattle.std.specs.Prelude.{◌≡◌, ◌≢◌, ◌⊎◌, ℕ, ◌+◌, ◌*◌, ◌<◌, ◌≤◌, ℤ, true, ⊤, List, [], ◌∷◌, ◌++◌, length, map, take, is_some, None}
 use Rattle.std.specs.List.{AllByRecursion}
-use Rattle.std.specs.Int.{w32, w64, to_le_bytes}
-use Rattle.lane_format.specs.Crash.{IsNotOpen, IsOpen}
-use Rattle.lane_format.specs.Lane.{IsLane, batch_text, header_text, lane_text}
-use Rattle.shell.specs.Kv.{Pairs, pair_body, value_of}
-
--- the key and the value have 64 bits
-abbrev pub FitsPair : ℤ × ℤ → Type 0
-FitsPair pair = FitsSigned w64 pair.0 × FitsSigned w64 pair.1
+use Rattle.std.specs.Int.{w32, to_le_bytes}
+use Rattle.lane_format.specs.Lane.{IsLane, IsNotOpen, IsOpen, batch_text, header_text, lane_text}
+use Rattle.shell.specs.Kv.{FitsPair, Pairs, pair_body, value_of}
 
 -- no key stands twice
 abbrev pub NoKeyTwice : Pairs → Type 0

@@ -4,6 +4,7 @@ use Rattle.std.specs.Char.{is_ascii_digit}
 use Rattle.std.specs.Int.{w64}
 use Rattle.std.specs.Fmt.{signed_decimal}
 use Rattle.std.specs.List.{flat_map, AllByRecursion}
+use Rattle.shell.specs.Kv.{FitsPair}
 use Rattle.shell.specs.declared.statement.Statement.{Statement}
 use Rattle.shell.specs.declared.statement.Statement.TheVariants.{Insert, Select}
 
@@ -27,7 +28,7 @@ statement_text (Select key) = codes "SELECT * FROM kv WHERE id = " ++ signed_dec
 
 -- its numbers have 64 bits
 abbrev pub Fits : Statement → Type 0
-Fits (Insert key value) = FitsSigned w64 key × FitsSigned w64 value
+Fits (Insert key value) = FitsPair (key, value)
 Fits (Select key) = FitsSigned w64 key
 
 -- the text begins with the line of this insert, and the rest follows

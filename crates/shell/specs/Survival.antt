@@ -2,7 +2,7 @@
 use Rattle.std.specs.Prelude.{◌≡◌, ◌⊎◌, ℕ, ◌+◌, ◌≤◌, List, [], length, take, Option, None, Some}
 use Rattle.disk_core.specs.Crash.{LeavesOnly, NoneNew, Only}
 use Rattle.shell.specs.Kv.{Pairs, pairs_after, pairs_after_all}
-use Rattle.lane_format.specs.Crash.{IsOpen}
+use Rattle.lane_format.specs.Lane.{IsOpen}
 use Rattle.shell.specs.Log.{BeginsWith, IsLogOf}
 use Rattle.shell.specs.Outcome.{StopsAt}
 use Rattle.shell.specs.Script.{statements_in}
@@ -18,8 +18,8 @@ pub record LeavesAsWas {D : Type 0} (may_leave : D → List ℕ → Type 0) (mom
   pub moments : LeavesOnly moment left_since old new (may_leave old)
 
 -- the log of these pairs, or of those that the statement leaves
-abbrev pub WithOrWithout : Pairs → Statement → List ℕ → Type 0
-WithOrWithout pairs statement image = IsLogOf pairs image ⊎ IsLogOf (pairs_after pairs statement) image
+abbrev pub BeforeOrAfter : Pairs → Statement → List ℕ → Type 0
+BeforeOrAfter pairs statement image = IsLogOf pairs image ⊎ IsLogOf (pairs_after pairs statement) image
 
 -- what a crash might have left of the disk, or a file that begins a session with no pairs
 abbrev pub OldOrEmpty : {D : Type 0} → (D → List ℕ → Type 0) → D → List ℕ → Type 0

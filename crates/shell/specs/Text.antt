@@ -2,6 +2,7 @@
 use Rattle.std.specs.Prelude.{ℕ, true, false, List, [], ◌++◌, codes, Option, None, Some}
 use Rattle.std.specs.Fmt.{decimal, signed_decimal}
 use Rattle.std.specs.List.{flat_map}
+use Rattle.shell.specs.Log.{last_end}
 use Rattle.disk_core.specs.declared.store.FileName.{FileName}
 use Rattle.disk_core.specs.declared.store.FileName.TheVariants.{AreaA, AreaB, Lane}
 use Rattle.shell.specs.declared.reply.Reply.{Reply}
@@ -13,7 +14,7 @@ use Rattle.shell.specs.declared.end.End.TheVariants.{Done, Usage, OutOfMemory, D
 abbrev pub reply_text : Reply → List ℕ
 reply_text Inserted = codes "ok 1\n"
 reply_text (Duplicate key) = codes "refused DUPLICATE " ++ signed_decimal key ++ codes "\n"
-reply_text (LogFull bytes) = codes "refused LOG FULL " ++ decimal bytes ++ codes " 67108864\n"
+reply_text (LogFull bytes) = codes "refused LOG FULL " ++ decimal bytes ++ codes " " ++ decimal last_end ++ codes "\n"
 reply_text (Found key value) = signed_decimal key ++ codes ", " ++ signed_decimal value ++ codes "\nrows 1\n"
 reply_text Missing = codes "rows 0\n"
 reply_text Stopped = codes "stopped\n"

@@ -7,7 +7,7 @@ ghost use Rattle.shell.specs.Call.{AllDone, Answers, Explains, IsRun, Lasts, Nam
 ghost use Rattle.shell.specs.Files.{KeepsOthers, log_file};
 ghost use Rattle.shell.specs.Input.{WasRead, read_limit};
 ghost use Rattle.shell.specs.Script.{IsScript};
-ghost use Rattle.shell.specs.Session.{script_of};
+ghost use Rattle.shell.specs.ReadScript.{script_of};
 ghost use Rattle.shell.specs.Shown.{shown_of};
 
 use crate::End;

@@ -1,8 +1,8 @@
 // What holds of every log file, as functions that do nothing: each contract is the law.
 ghost use Rattle.std.specs.Prelude.{◌≡◌, ◌≢◌, ◌+◌, ◌<◌, ◌≤◌, ℕ, ℤ, List, [], ◌∷◌, ◌++◌, length, get_or, None};
 ghost use Rattle.lane_format.specs.Lane.{batch_text};
-ghost use Rattle.shell.specs.Kv.{Pairs, pair_body, value_of};
-ghost use Rattle.shell.specs.Log.{FitsPair, Holding, LaneRead, MayBeLogged, gate_place, lane_reads, last_end, log_text};
+ghost use Rattle.shell.specs.Kv.{FitsPair, Pairs, pair_body, value_of};
+ghost use Rattle.shell.specs.Log.{Holding, LaneRead, MayBeLogged, gate_place, lane_reads, last_end, log_text};
 
 /// A file has at most one reading.
 pub fn one_reading()

@@ -15,8 +15,6 @@ mod script;
 mod session;
 mod statement;
 mod stop;
-#[cfg(test)]
-mod tests;
 
 pub use call::{Ended, is_run, ptime};
 pub use end::End;

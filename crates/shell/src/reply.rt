@@ -1,3 +1,4 @@
+use crate::log::LAST_END;
 use crate::printer::Printer;
 use io_edge::Sink;
 
@@ -37,7 +38,9 @@ impl Reply {
                 "\n",
             ),
             Reply::LogFull { bytes } => {
-                printer.print_between(sink, "refused LOG FULL ", bytes, " 67108864\n");
+                printer.print_between(sink, "refused LOG FULL ", bytes, " ");
+                printer.print_number(sink, LAST_END);
+                printer.print(sink, "\n");
             }
             Reply::Found { key, value } => {
                 printer.print_number(sink, key);

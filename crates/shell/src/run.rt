@@ -3,7 +3,7 @@ ghost use Rattle.std.specs.Prelude.{◌≡◌, ◌+◌, ◌-◌, ◌<◌, ◌≤
 ghost use Rattle.std.specs.Option.{ForSome};
 ghost use Rattle.shell.specs.Log.{BeginsWith};
 ghost use Rattle.shell.specs.Outcome.{CountStands, Runs};
-ghost use Rattle.shell.specs.Session.{script_of};
+ghost use Rattle.shell.specs.ReadScript.{script_of};
 ghost use Rattle.shell.specs.Shown.{shown_of};
 ghost use Rattle.causes.specs.Causes.{Rose};
 ghost use Rattle.disk_core.specs.declared.store.FileName.{FileName};

@@ -1,7 +1,7 @@
 ghost use Rattle.std.specs.Prelude.{◌≡◌, List, Option, IfOk, MatchResult};
 ghost use Rattle.std.specs.List.{AllByRecursion, flat_map};
 ghost use Rattle.shell.specs.Script.{Fits, IsScript, statement_text};
-ghost use Rattle.shell.specs.Session.{script_of};
+ghost use Rattle.shell.specs.ReadScript.{script_of};
 ghost use Rattle.shell.specs.declared.statement.Statement.{Statement as Line};
 
 use crate::statement::{Statement, after, read_statement};

@@ -1,7 +1,7 @@
 ghost use Rattle.std.specs.Prelude.{◌≡◌, ◌≤◌, ◌+◌, ◌++◌, ℕ, List, [], ◌∷◌, IsSome, IfErr, OnOk, OnErr};
 ghost use Rattle.causes.specs.Causes.{Rose};
 ghost use Rattle.disk_core.specs.Crash.{LeavesOnly};
-ghost use Rattle.lane_format.specs.Crash.{LeavesNow, OldOrNotOpen, WithOrWithout as EitherLane};
+ghost use Rattle.lane_format.specs.Crash.{LeavesNow, OldOrNotOpen, WithOrWithout};
 ghost use Rattle.lane_format.specs.Writer.{Holds, IsNear, IsSettled, disk_of, even_file, lane_of, stage_of};
 ghost use Rattle.shell.specs.Kv.{pair_body};
 ghost use Rattle.shell.specs.Survival.{OldOrEmpty};
@@ -31,9 +31,9 @@ impl<D: Disk> Session<D> {
     ghost use Rattle.lane_format.specs.Crash.{LeavesNow};
     ghost use Rattle.lane_format.specs.Writer.{disk_of, even_file};
     ghost use Rattle.shell.specs.Keeping.{IsMapOf, Keeps, Secures};
-    ghost use Rattle.shell.specs.Survival.{IsQuiet, LeftUnbegun, WithOrWithout};
+    ghost use Rattle.shell.specs.Survival.{IsQuiet, LeftUnbegun, BeforeOrAfter};
     ghost use Rattle.shell.specs.Kv.{Pairs, found, pairs_after, reply_to, value_of};
-    ghost use Rattle.lane_format.specs.Crash.{IsOpen};
+    ghost use Rattle.lane_format.specs.Lane.{IsOpen};
     ghost use Rattle.shell.specs.Log.{BeginsWith, IsLogOf, MayBeLogged, Holding, lane_reads};
     ghost use Rattle.shell.specs.Outcome.{CannotOpen, CountStands};
 
@@ -105,8 +105,8 @@ impl<D: Disk> Session<D> {
         ensures later { D.faults (disk_of self.old.writer) ≤ D.faults (disk_of self.new.writer) }
         ensures still { CountStands (D.faults (disk_of self.old.writer)) (D.faults (disk_of self.new.writer)) result }
         ensures moments { (pairs : Pairs) → Secures D.content D.may_leave self.old pairs
-            → LeavesOnly D.moment D.left_since (disk_of self.old.writer) (disk_of self.new.writer) (WithOrWithout pairs statement.now) }
-        ensures crash { (pairs : Pairs) → Secures D.content D.may_leave self.old pairs → LeavesNow D.content D.may_leave (disk_of self.new.writer) (WithOrWithout pairs statement.now) }
+            → LeavesOnly D.moment D.left_since (disk_of self.old.writer) (disk_of self.new.writer) (BeforeOrAfter pairs statement.now) }
+        ensures crash { (pairs : Pairs) → Secures D.content D.may_leave self.old pairs → LeavesNow D.content D.may_leave (disk_of self.new.writer) (BeforeOrAfter pairs statement.now) }
         ensures durable { OnOk result ((pairs : Pairs) → Secures D.content D.may_leave self.old pairs → Secures D.content D.may_leave self.new (pairs_after pairs statement.now)) }
         ensures short { IfErr result (λ stop. stop ≡ Stop.OutOfMemory → (pairs : Pairs) → Secures D.content D.may_leave self.old pairs
             → Secures D.content D.may_leave self.new pairs × LeavesOnly D.moment D.left_since (disk_of self.old.writer) (disk_of self.new.writer) (IsLogOf pairs)) }
@@ -127,8 +127,8 @@ impl<D: Disk> Session<D> {
         ensures later { D.faults (disk_of self.old.writer) ≤ D.faults (disk_of self.new.writer) }
         ensures still { CountStands (D.faults (disk_of self.old.writer)) (D.faults (disk_of self.new.writer)) result }
         ensures moments { (pairs : Pairs) → Secures D.content D.may_leave self.old pairs
-            → LeavesOnly D.moment D.left_since (disk_of self.old.writer) (disk_of self.new.writer) (WithOrWithout pairs (Statement.Insert key value)) }
-        ensures crash { (pairs : Pairs) → Secures D.content D.may_leave self.old pairs → LeavesNow D.content D.may_leave (disk_of self.new.writer) (WithOrWithout pairs (Statement.Insert key value)) }
+            → LeavesOnly D.moment D.left_since (disk_of self.old.writer) (disk_of self.new.writer) (BeforeOrAfter pairs (Statement.Insert key value)) }
+        ensures crash { (pairs : Pairs) → Secures D.content D.may_leave self.old pairs → LeavesNow D.content D.may_leave (disk_of self.new.writer) (BeforeOrAfter pairs (Statement.Insert key value)) }
         ensures durable { OnOk result ((pairs : Pairs) → Secures D.content D.may_leave self.old pairs → Secures D.content D.may_leave self.new (pairs_after pairs (Statement.Insert key value))) }
         ensures short { IfErr result (λ stop. stop ≡ Stop.OutOfMemory → (pairs : Pairs) → Secures D.content D.may_leave self.old pairs
             → Secures D.content D.may_leave self.new pairs × LeavesOnly D.moment D.left_since (disk_of self.old.writer) (disk_of self.new.writer) (IsLogOf pairs)) }
@@ -182,9 +182,9 @@ fn force_pair<D: Disk>(writer: &mut LaneWriter<D>, key: i64, value: i64) -> Resu
     ensures still { OnOk result (D.faults (disk_of writer.new) ≡ D.faults (disk_of writer.old)) }
     ensures cause { IfErr result (λ stop. (stop ≡ Stop.Disk (even_file 0)) × Rose (D.faults (disk_of writer.old)) (D.faults (disk_of writer.new))) }
     ensures moments { (bodies : List (List ℕ)) → IsSettled D.content D.may_leave writer.old 2 bodies
-        → LeavesOnly D.moment D.left_since (disk_of writer.old) (disk_of writer.new) (EitherLane 2 0 bodies (pair_body (key, value))) }
+        → LeavesOnly D.moment D.left_since (disk_of writer.old) (disk_of writer.new) (WithOrWithout 2 0 bodies (pair_body (key, value))) }
     ensures crash { (bodies : List (List ℕ)) → IsSettled D.content D.may_leave writer.old 2 bodies
-        → LeavesNow D.content D.may_leave (disk_of writer.new) (EitherLane 2 0 bodies (pair_body (key, value))) }
+        → LeavesNow D.content D.may_leave (disk_of writer.new) (WithOrWithout 2 0 bodies (pair_body (key, value))) }
     ensures durable { OnOk result ((bodies : List (List ℕ)) → IsSettled D.content D.may_leave writer.old 2 bodies
         → IsSettled D.content D.may_leave writer.new 2 (bodies ++ pair_body (key, value) ∷ [])) }
 {

@@ -7,8 +7,6 @@ mod laws;
 mod lexing;
 mod scanning;
 mod shapes;
-#[cfg(test)]
-mod tests;
 mod token;
 
 pub use causes::OutOfMemory;

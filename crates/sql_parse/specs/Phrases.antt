@@ -2,6 +2,7 @@
 use Rattle.std.specs.Prelude.{◌≡◌, ◌⊎◌, List, [], ◌∷◌, ◌++◌, Option, Some}
 use Rattle.sql_lex.specs.Spelling.{Lexeme}
 
+-- which tokens are which value
 abbrev pub Phrase : Type 0 → Type 1
 Phrase X = List Lexeme → X → Type 0
 

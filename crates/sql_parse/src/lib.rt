@@ -11,8 +11,6 @@ mod parser;
 mod parsing;
 mod selects;
 mod statement;
-#[cfg(test)]
-mod tests;
 mod values;
 
 pub use causes::OutOfMemory;

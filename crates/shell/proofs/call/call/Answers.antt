@@ -1,5 +1,5 @@
 use Rattle.std.proofs.Common.{inr}
-use Rattle.shell.specs.Session.{script_of}
+use Rattle.shell.specs.ReadScript.{script_of}
 use Rattle.shell.proofs.call.call.Goals as goal
 
 pub returns-in-Ok-clause-lasts : goal.returns-in-Ok-clause-lasts

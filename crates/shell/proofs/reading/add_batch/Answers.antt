@@ -1,4 +1,4 @@
-use Rattle.std.proofs.Common.{◌≡◌, ◌+◌, ◌≤◌, ℤ, length, take, true, false, cond, is_some, Some, int_cmp, w64, sym, ◌∙◌, ap, arith}
+use Rattle.std.proofs.Common.{◌≡◌, ◌+◌, ◌≤◌, ℤ, length, take, true, false, cond, is_some, Some, int_cmp, w64, ◌∙◌, ap, arith}
 use Rattle.std.specs.BTreeMap.{get}
 use Rattle.std.specs.Int.{w32, to_le_bytes}
 use Rattle.std.specs.Str.{bytes_eq}
@@ -8,7 +8,7 @@ use Rattle.std.proofs.lemmas.Slice.Eq.{bytes_eq-Decides}
 use Rattle.shell.specs.Kv.{value_of}
 use Rattle.shell.specs.Log.{gate_place, last_end}
 use Rattle.shell.proofs.Batches.{batch_read, gate_open, none_added, one_added, other_length, same_key, tail_whole, too_late}
-use Rattle.shell.proofs.Pairs.{logged-push, map-push, none_there}
+use Rattle.shell.proofs.Pairs.{has_key, logged-push, map-push, none_there}
 use Rattle.shell.proofs.Words.{differs, equals, never_told}
 use Rattle.shell.specs.declared.reading.Front.TheVariants.{Breaks}
 use Rattle.shell.proofs.reading.add_batch.Goals as goal
@@ -38,8 +38,7 @@ returns-then-contains_key-clause-adds c list is logged =
     let len = equals c.ne.result (bytes_eq lengths (to_le_bytes w32 16)) c.ne.ensures (bytes_eq-Decides lengths (to_le_bytes w32 16)) c.if-ne.false in
     let read = batch_read batch lengths c.split_at.result.1.now c.split_at-2.result.0.now c.split_at-2.result.1.now key value
     c.split_at.ensures.front c.split_at.ensures.back c.split_at-2.ensures.front c.split_at-2.ensures.back c.number-key.ensures.bytes c.number-value.ensures.bytes gate len in
-    let there : is_some (value_of list key) ≡ true =
-    ap is_some (sym (is.same key)) ∙ ap (λ (z : ℤ). is_some (get int_cmp c.args.pairs.now z)) (sym (to_z-of_z w64 key c.number-key.ensures.fits)) ∙ sym c.contains_key.ensures ∙ c.if-contains_key.true in
+    let there = has_key c.args.pairs.now list key c.contains_key.result true is c.number-key.ensures.fits c.contains_key.ensures c.if-contains_key.true in
     none_added Breaks list batch c.args.pairs.now is logged (same_key list batch (key, value) (c.number-key.ensures.fits, c.number-value.ensures.fits) read there)
 
 pub returns-clause-adds : goal.returns-clause-adds
@@ -52,8 +51,7 @@ returns-clause-adds c list is logged =
     let len = equals c.ne.result (bytes_eq lengths (to_le_bytes w32 16)) c.ne.ensures (bytes_eq-Decides lengths (to_le_bytes w32 16)) c.if-ne.false in
     let read = batch_read batch lengths c.split_at.result.1.now c.split_at-2.result.0.now c.split_at-2.result.1.now key value
     c.split_at.ensures.front c.split_at.ensures.back c.split_at-2.ensures.front c.split_at-2.ensures.back c.number-key.ensures.bytes c.number-value.ensures.bytes gate len in
-    let absent : is_some (value_of list key) ≡ false =
-    ap is_some (sym (is.same key)) ∙ ap (λ (z : ℤ). is_some (get int_cmp c.args.pairs.now z)) (sym (to_z-of_z w64 key c.number-key.ensures.fits)) ∙ sym c.contains_key.ensures ∙ c.if-contains_key.false in
+    let absent = has_key c.args.pairs.now list key c.contains_key.result false is c.number-key.ensures.fits c.contains_key.ensures c.if-contains_key.false in
     let none = none_there (value_of list key) absent in
     let old = c.args.pairs.now in
     let new = c.insert.new.self in

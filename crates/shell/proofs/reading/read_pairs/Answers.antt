@@ -1,4 +1,4 @@
-use Rattle.std.proofs.Common.{ℕ, List, Option, refl, sym, ◌∙◌, subst, arith}
+use Rattle.std.proofs.Common.{ℕ, List, Option, refl, sym, ◌∙◌, subst}
 use Rattle.shell.specs.Opening.{Reached}
 use Rattle.shell.specs.declared.reading.Front.{Front}
 use Rattle.shell.specs.declared.reading.Front.TheVariants as front

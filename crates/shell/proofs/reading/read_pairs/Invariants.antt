@@ -1,4 +1,4 @@
-use Rattle.std.proofs.Common.{◌≡◌, ◌+◌, ◌*◌, ◌-◌, ◌≤◌}
+use Rattle.std.proofs.Common.{◌≡◌, ◌+◌, ◌*◌, ◌-◌}
 use Rattle.std.specs.BTreeMap.{btree_map_len}
 use Rattle.shell.specs.Opening.{Reached}
 use Rattle.shell.specs.Survival.{LeavesAsWas}

@@ -1,7 +1,7 @@
 use Rattle.std.proofs.Common.{◌≡◌, List, Option, Some, None, refl, sym, ◌∙◌, ap, subst}
 use Rattle.std.specs.Option.{option_map}
 use Rattle.shell.specs.Outcome.{Runs}
-use Rattle.shell.specs.Session.{script_of}
+use Rattle.shell.specs.ReadScript.{script_of}
 use Rattle.shell.specs.Shown.{shown_of}
 use Rattle.shell.specs.Survival.{Survives}
 use Rattle.shell.proofs.Lasting.{begun_alone, survives_as, unopened}

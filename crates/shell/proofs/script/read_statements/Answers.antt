@@ -2,7 +2,7 @@ use Rattle.shell.specs.Script.{statement_text}
 use Rattle.std.proofs.Common.{◌≡◌, ◌<◌, [], List, ℕ, Bor, length, sym, ap, subst, arith}
 use Rattle.std.proofs.lemmas.Bool.Decides.{nat_tests}
 use Rattle.std.proofs.lemmas.List.{length-append, nil_from_length}
-use Rattle.shell.specs.Session.{LinesSoFar}
+use Rattle.shell.specs.ReadScript.{LinesSoFar}
 use Rattle.shell.proofs.Lines.{line_has_bytes, line_read, no_more, one_more}
 use Rattle.shell.proofs.Words.{got, missed}
 use Rattle.shell.specs.declared.statement.Statement.{Statement}

@@ -1,5 +1,5 @@
 use Rattle.std.proofs.Common.{length}
-use Rattle.shell.specs.Session.{LinesSoFar}
+use Rattle.shell.specs.ReadScript.{LinesSoFar}
 use Rattle.shell.proofs.script.read_statements.Given as goal
 
 abbrev pub invariant-loop-rest : goal.invariant-loop-rest

@@ -1,8 +1,7 @@
 use Rattle.std.proofs.Common.{◌≡◌, sym, ◌∙◌, ap, subst, arith, IsSome, OnOk}
 use Rattle.std.specs.Option.{option_map}
 use Rattle.disk_core.specs.Crash.{NothingPending}
-use Rattle.lane_format.specs.Crash.{IsNotOpen}
-use Rattle.lane_format.specs.Lane.{shut}
+use Rattle.lane_format.specs.Lane.{IsNotOpen, shut}
 use Rattle.lane_format.proofs.Left.{both_ok, now_as_told}
 use Rattle.lane_format.proofs.Told.{at_done, told_after}
 use Rattle.lane_format.proofs.writer.LaneWriter.close.Goals as goal

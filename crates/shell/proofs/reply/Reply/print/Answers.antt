@@ -1,4 +1,4 @@
-use Rattle.std.proofs.Common.{rules, w64, FitsSigned}
+use Rattle.std.proofs.Common.{◌≡◌, ◌++◌, List, ℕ, rules, w64, FitsSigned, append_assoc}
 use Rattle.std.proofs.lemmas.Int.{to_z-of_z, ints}
 use Rattle.shell.proofs.reply.Reply.print.Goals as goal
 
@@ -8,5 +8,12 @@ returns-in-Duplicate g c start before text is =
     let printed = c.print_between.ensures start before text is in
     rw c.in-Duplicate.is (rw (to_z-of_z w64 c.in-Duplicate.key fits) at printed)
 
+-- three texts printed one after the other are one
+one_text : (text a b c : List ℕ) → text ++ (a ++ b ++ c) ≡ text ++ a ++ b ++ c
+one_text text a b c = simp append_assoc
+
 pub returns-in-LogFull : goal.returns-in-LogFull
-returns-in-LogFull g c start before text is = rw c.in-LogFull.is (c.print_between-in-LogFull.ensures start before text is)
+returns-in-LogFull g c start before text is =
+    let front = c.print_between-in-LogFull.ensures start before text is in
+    let printed = c.print-in-LogFull.ensures start before _ (c.print_number.ensures start before _ front) in
+    rw (c.in-LogFull.is, one_text) printed

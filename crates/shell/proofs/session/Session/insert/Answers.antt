@@ -1,19 +1,14 @@
-use Rattle.std.proofs.Common.{◌≡◌, ◌+◌, ◌≤◌, ◌++◌, ◌∷◌, [], ℤ, true, false, cond, length, map, Some, is_some, int_cmp, w64, to_z, of_z, sym, ◌∙◌, ap, subst, arith}
+use Rattle.std.proofs.Common.{◌≡◌, ◌+◌, ◌≤◌, ◌++◌, ◌∷◌, [], ℤ, true, false, cond, length, map, Some, is_some, int_cmp, w64, ◌∙◌, ap, subst, arith}
 use Rattle.std.proofs.lemmas.Int.{to_z-of_z}
 use Rattle.std.specs.Ordering.{int_eq}
 use Rattle.std.specs.BTreeMap.{get}
-use Rattle.lane_format.specs.Writer.{Holds, IsSettled, disk_of}
-use Rattle.shell.specs.Kv.{value_of, used_bytes, pair_body, pairs_after}
+use Rattle.lane_format.specs.Writer.{Holds, IsSettled}
+use Rattle.shell.specs.Kv.{FitsPair, log_limit, pair_body, pairs_after, used_bytes}
 use Rattle.shell.specs.Log.{gate_place}
 use Rattle.shell.specs.Keeping.{Keeps, Secures}
-use Rattle.disk_core.specs.Crash.{LeavesOnly}
-use Rattle.disk_core.proofs.Moments.{weaker}
-use Rattle.lane_format.specs.Crash.{LeavesNow}
-use Rattle.lane_format.specs.Crash.{WithOrWithout as EitherLane}
-use Rattle.shell.specs.Survival.{WithOrWithout}
-use Rattle.shell.proofs.Securing.{either_log, now_too, secures_more, settled_of, stays_there}
+use Rattle.shell.proofs.Securing.{forced_moments, forced_now, secures_more, settled_of, stays_there}
 use Rattle.shell.specs.declared.statement.Statement.TheVariants.{Insert}
-use Rattle.shell.proofs.Pairs.{log_full, accepted, one_pair_more}
+use Rattle.shell.proofs.Pairs.{accepted, has_key, log_full, one_pair_more, same_pair}
 use Rattle.shell.specs.declared.reply.Reply.TheVariants.{LogFull}
 use Rattle.shell.specs.declared.session.Session.{Session}
 use Rattle.shell.proofs.session.Session.insert.Goals as goal
@@ -23,8 +18,7 @@ returns-then-bytes-gt-LOG_LIMIT-clause-reply g c pairs keeps =
     let content = g.D.Disk.content in
     let old = c.args.self.now in
     let key = c.args.key in
-    let absent : is_some (value_of pairs key) ≡ false =
-    ap is_some (sym (keeps.table.same key)) ∙ ap (λ (z : ℤ). is_some (get int_cmp old.pairs z)) (sym (to_z-of_z w64 key c.ranges.key)) ∙ sym c.contains_key.ensures ∙ c.if-contains_key.false in
+    let absent = has_key old.pairs pairs key c.contains_key.result false keeps.table c.ranges.key c.contains_key.ensures c.if-contains_key.false in
     let bytes : c.gate_place-bytes.result + 1 ≡ used_bytes pairs = omega (arith, c.gate_place-bytes.ensures, c.len.ensures.len, keeps.table.count) in
     let full = log_full content old pairs key c.args.value keeps absent (omega (arith, bytes, c.if-bytes-gt-LOG_LIMIT.true)) in
     (ap LogFull bytes ∙ full.0, subst (Keeps content old) full.1 keeps)
@@ -35,15 +29,14 @@ returns-clause-reply g c pairs keeps =
     let old = c.args.self.now in
     let key = c.args.key in
     let value = c.args.value in
-    let absent : is_some (value_of pairs key) ≡ false =
-    ap is_some (sym (keeps.table.same key)) ∙ ap (λ (z : ℤ). is_some (get int_cmp old.pairs z)) (sym (to_z-of_z w64 key c.ranges.key)) ∙ sym c.contains_key.ensures ∙ c.if-contains_key.false in
-    let room : used_bytes pairs ≤ 66846592 = omega (arith, c.gate_place-bytes.ensures, c.len.ensures.len, keeps.table.count, c.if-bytes-gt-LOG_LIMIT.false) in
+    let absent = has_key old.pairs pairs key c.contains_key.result false keeps.table c.ranges.key c.contains_key.ensures c.if-contains_key.false in
+    let room : used_bytes pairs ≤ log_limit = omega (arith, c.gate_place-bytes.ensures, c.len.ensures.len, keeps.table.count, c.if-bytes-gt-LOG_LIMIT.false) in
     let new : Session g.row.D.Denot = record { writer = c.force_pair.new.writer; pairs = c.insert.new.self } in
     let is = accepted content old pairs key value keeps absent room in
     let updates : (q : ℤ) → get int_cmp new.pairs q ≡ cond (int_eq key q) (Some value) (get int_cmp old.pairs q) =
     λ q. let u = c.in_ok-insert.ensures.updates.0 q in rw (to_z-of_z w64 key c.ranges.key, to_z-of_z w64 value c.ranges.value) at u in
     let file : Holds content new.writer 2 (map pair_body pairs ++ pair_body (key, value) ∷ []) =
-    subst (λ (p : ℤ × ℤ). Holds content new.writer 2 (map pair_body pairs ++ pair_body p ∷ [])) (ap (λ (z : ℤ). (z, to_z w64 (of_z w64 value))) (to_z-of_z w64 key c.ranges.key) ∙ ap (λ (z : ℤ). (key, z)) (to_z-of_z w64 value c.ranges.value)) (c.in_ok-force_pair.ensures.appended (map pair_body pairs) keeps.file) in
+    subst (λ (p : ℤ × ℤ). Holds content new.writer 2 (map pair_body pairs ++ pair_body p ∷ [])) (same_pair key value (c.ranges.key, c.ranges.value)) (c.in_ok-force_pair.ensures.appended (map pair_body pairs) keeps.file) in
     let none : is_some c.in_ok-insert.field-0 ≡ false = ap is_some c.in_ok-insert.ensures.old ∙ ap (λ (z : ℤ). is_some (get int_cmp old.pairs z)) (to_z-of_z w64 key c.ranges.key) ∙ ap is_some (keeps.table.same key) ∙ absent in
     let more = one_pair_more content old pairs key value keeps absent new (c.ranges.key, c.ranges.value) room updates (rw none at c.in_ok-insert.ensures.len) c.force_pair.ensures.lane (c.in_ok-force_pair.ensures.stage (gate_place (length pairs)) keeps.stage) file in
     (is.0, subst (Keeps content new) is.1 more)
@@ -51,8 +44,7 @@ returns-clause-reply g c pairs keeps =
 pub returns-then-contains_key-clause-durable : goal.returns-then-contains_key-clause-durable
 returns-then-contains_key-clause-durable g c pairs secures =
     let key = c.args.key in
-    let there : is_some (value_of pairs key) ≡ true =
-    ap is_some (sym (secures.keeps.table.same key)) ∙ ap (λ (z : ℤ). is_some (get int_cmp c.args.self.now.pairs z)) (sym (to_z-of_z w64 key c.ranges.key)) ∙ sym c.contains_key.ensures ∙ c.if-contains_key.true in
+    let there = has_key c.args.self.now.pairs pairs key c.contains_key.result true secures.keeps.table c.ranges.key c.contains_key.ensures c.if-contains_key.true in
     subst (Secures g.D.Disk.content g.D.Disk.may_leave c.args.self.now) (stays_there pairs key c.args.value there) secures
 
 pub returns-in_err-force_pair-clause-moments : goal.returns-in_err-force_pair-clause-moments
@@ -60,64 +52,44 @@ returns-in_err-force_pair-clause-moments g c pairs secures =
     let D = g.D.Disk in
     let old = c.args.self.now in
     let key = c.args.key in
-    let value = c.args.value in
     let keeps = secures.keeps in
-    let absent : is_some (value_of pairs key) ≡ false =
-    ap is_some (sym (keeps.table.same key)) ∙ ap (λ (z : ℤ). is_some (get int_cmp old.pairs z)) (sym (to_z-of_z w64 key c.ranges.key)) ∙ sym c.contains_key.ensures ∙ c.if-contains_key.false in
-    let room : used_bytes pairs ≤ 66846592 = omega (arith, c.gate_place-bytes.ensures, c.len.ensures.len, keeps.table.count, c.if-bytes-gt-LOG_LIMIT.false) in
-    let settled = settled_of D.content D.may_leave old pairs secures in
-    let either = either_log D.content old pairs key value keeps absent room (c.ranges.key, c.ranges.value) in
-    let same : (to_z w64 (of_z w64 key), to_z w64 (of_z w64 value)) ≡ (key, value) = ap (λ (z : ℤ). (z, to_z w64 (of_z w64 value))) (to_z-of_z w64 key c.ranges.key) ∙ ap (λ (z : ℤ). (key, z)) (to_z-of_z w64 value c.ranges.value) in
-    let moments = subst (λ (p : ℤ × ℤ). LeavesOnly D.moment D.left_since (disk_of old.writer) (disk_of c.force_pair.new.writer) (EitherLane 2 0 (map pair_body pairs) (pair_body p))) same (c.force_pair.ensures.moments (map pair_body pairs) settled) in
-    weaker D.moment D.left_since (disk_of old.writer) (disk_of c.force_pair.new.writer) (EitherLane 2 0 (map pair_body pairs) (pair_body (key, value))) (WithOrWithout pairs (Insert key value)) either moments
+    let fits : FitsPair (key, c.args.value) = (c.ranges.key, c.ranges.value) in
+    let absent = has_key old.pairs pairs key c.contains_key.result false keeps.table c.ranges.key c.contains_key.ensures c.if-contains_key.false in
+    let room : used_bytes pairs ≤ log_limit = omega (arith, c.gate_place-bytes.ensures, c.len.ensures.len, keeps.table.count, c.if-bytes-gt-LOG_LIMIT.false) in
+    forced_moments D.content old pairs key c.args.value keeps absent room fits D.may_leave D.moment D.left_since c.force_pair.new.writer.disk _ (same_pair key c.args.value fits) (c.force_pair.ensures.moments (map pair_body pairs) (settled_of D.content D.may_leave old pairs secures))
 
 pub returns-in_err-force_pair-clause-crash : goal.returns-in_err-force_pair-clause-crash
 returns-in_err-force_pair-clause-crash g c pairs secures =
     let D = g.D.Disk in
     let old = c.args.self.now in
     let key = c.args.key in
-    let value = c.args.value in
     let keeps = secures.keeps in
-    let absent : is_some (value_of pairs key) ≡ false =
-    ap is_some (sym (keeps.table.same key)) ∙ ap (λ (z : ℤ). is_some (get int_cmp old.pairs z)) (sym (to_z-of_z w64 key c.ranges.key)) ∙ sym c.contains_key.ensures ∙ c.if-contains_key.false in
-    let room : used_bytes pairs ≤ 66846592 = omega (arith, c.gate_place-bytes.ensures, c.len.ensures.len, keeps.table.count, c.if-bytes-gt-LOG_LIMIT.false) in
-    let settled = settled_of D.content D.may_leave old pairs secures in
-    let either = either_log D.content old pairs key value keeps absent room (c.ranges.key, c.ranges.value) in
-    let same : (to_z w64 (of_z w64 key), to_z w64 (of_z w64 value)) ≡ (key, value) = ap (λ (z : ℤ). (z, to_z w64 (of_z w64 value))) (to_z-of_z w64 key c.ranges.key) ∙ ap (λ (z : ℤ). (key, z)) (to_z-of_z w64 value c.ranges.value) in
-    let crash = subst (λ (p : ℤ × ℤ). LeavesNow D.content D.may_leave (disk_of c.force_pair.new.writer) (EitherLane 2 0 (map pair_body pairs) (pair_body p))) same (c.force_pair.ensures.crash (map pair_body pairs) settled) in
-    now_too D.content D.may_leave (disk_of c.force_pair.new.writer) (EitherLane 2 0 (map pair_body pairs) (pair_body (key, value))) (WithOrWithout pairs (Insert key value)) either crash
+    let fits : FitsPair (key, c.args.value) = (c.ranges.key, c.ranges.value) in
+    let absent = has_key old.pairs pairs key c.contains_key.result false keeps.table c.ranges.key c.contains_key.ensures c.if-contains_key.false in
+    let room : used_bytes pairs ≤ log_limit = omega (arith, c.gate_place-bytes.ensures, c.len.ensures.len, keeps.table.count, c.if-bytes-gt-LOG_LIMIT.false) in
+    forced_now D.content old pairs key c.args.value keeps absent room fits D.may_leave D.moment D.left_since c.force_pair.new.writer.disk _ (same_pair key c.args.value fits) (c.force_pair.ensures.crash (map pair_body pairs) (settled_of D.content D.may_leave old pairs secures))
 
 pub returns-clause-moments : goal.returns-clause-moments
 returns-clause-moments g c pairs secures =
     let D = g.D.Disk in
     let old = c.args.self.now in
     let key = c.args.key in
-    let value = c.args.value in
     let keeps = secures.keeps in
-    let absent : is_some (value_of pairs key) ≡ false =
-    ap is_some (sym (keeps.table.same key)) ∙ ap (λ (z : ℤ). is_some (get int_cmp old.pairs z)) (sym (to_z-of_z w64 key c.ranges.key)) ∙ sym c.contains_key.ensures ∙ c.if-contains_key.false in
-    let room : used_bytes pairs ≤ 66846592 = omega (arith, c.gate_place-bytes.ensures, c.len.ensures.len, keeps.table.count, c.if-bytes-gt-LOG_LIMIT.false) in
-    let settled = settled_of D.content D.may_leave old pairs secures in
-    let either = either_log D.content old pairs key value keeps absent room (c.ranges.key, c.ranges.value) in
-    let same : (to_z w64 (of_z w64 key), to_z w64 (of_z w64 value)) ≡ (key, value) = ap (λ (z : ℤ). (z, to_z w64 (of_z w64 value))) (to_z-of_z w64 key c.ranges.key) ∙ ap (λ (z : ℤ). (key, z)) (to_z-of_z w64 value c.ranges.value) in
-    let moments = subst (λ (p : ℤ × ℤ). LeavesOnly D.moment D.left_since (disk_of old.writer) (disk_of c.force_pair.new.writer) (EitherLane 2 0 (map pair_body pairs) (pair_body p))) same (c.force_pair.ensures.moments (map pair_body pairs) settled) in
-    weaker D.moment D.left_since (disk_of old.writer) (disk_of c.force_pair.new.writer) (EitherLane 2 0 (map pair_body pairs) (pair_body (key, value))) (WithOrWithout pairs (Insert key value)) either moments
+    let fits : FitsPair (key, c.args.value) = (c.ranges.key, c.ranges.value) in
+    let absent = has_key old.pairs pairs key c.contains_key.result false keeps.table c.ranges.key c.contains_key.ensures c.if-contains_key.false in
+    let room : used_bytes pairs ≤ log_limit = omega (arith, c.gate_place-bytes.ensures, c.len.ensures.len, keeps.table.count, c.if-bytes-gt-LOG_LIMIT.false) in
+    forced_moments D.content old pairs key c.args.value keeps absent room fits D.may_leave D.moment D.left_since c.force_pair.new.writer.disk _ (same_pair key c.args.value fits) (c.force_pair.ensures.moments (map pair_body pairs) (settled_of D.content D.may_leave old pairs secures))
 
 pub returns-clause-crash : goal.returns-clause-crash
 returns-clause-crash g c pairs secures =
     let D = g.D.Disk in
     let old = c.args.self.now in
     let key = c.args.key in
-    let value = c.args.value in
     let keeps = secures.keeps in
-    let absent : is_some (value_of pairs key) ≡ false =
-    ap is_some (sym (keeps.table.same key)) ∙ ap (λ (z : ℤ). is_some (get int_cmp old.pairs z)) (sym (to_z-of_z w64 key c.ranges.key)) ∙ sym c.contains_key.ensures ∙ c.if-contains_key.false in
-    let room : used_bytes pairs ≤ 66846592 = omega (arith, c.gate_place-bytes.ensures, c.len.ensures.len, keeps.table.count, c.if-bytes-gt-LOG_LIMIT.false) in
-    let settled = settled_of D.content D.may_leave old pairs secures in
-    let either = either_log D.content old pairs key value keeps absent room (c.ranges.key, c.ranges.value) in
-    let same : (to_z w64 (of_z w64 key), to_z w64 (of_z w64 value)) ≡ (key, value) = ap (λ (z : ℤ). (z, to_z w64 (of_z w64 value))) (to_z-of_z w64 key c.ranges.key) ∙ ap (λ (z : ℤ). (key, z)) (to_z-of_z w64 value c.ranges.value) in
-    let crash = subst (λ (p : ℤ × ℤ). LeavesNow D.content D.may_leave (disk_of c.force_pair.new.writer) (EitherLane 2 0 (map pair_body pairs) (pair_body p))) same (c.force_pair.ensures.crash (map pair_body pairs) settled) in
-    now_too D.content D.may_leave (disk_of c.force_pair.new.writer) (EitherLane 2 0 (map pair_body pairs) (pair_body (key, value))) (WithOrWithout pairs (Insert key value)) either crash
+    let fits : FitsPair (key, c.args.value) = (c.ranges.key, c.ranges.value) in
+    let absent = has_key old.pairs pairs key c.contains_key.result false keeps.table c.ranges.key c.contains_key.ensures c.if-contains_key.false in
+    let room : used_bytes pairs ≤ log_limit = omega (arith, c.gate_place-bytes.ensures, c.len.ensures.len, keeps.table.count, c.if-bytes-gt-LOG_LIMIT.false) in
+    forced_now D.content old pairs key c.args.value keeps absent room fits D.may_leave D.moment D.left_since c.force_pair.new.writer.disk _ (same_pair key c.args.value fits) (c.force_pair.ensures.crash (map pair_body pairs) (settled_of D.content D.may_leave old pairs secures))
 
 pub returns-clause-durable : goal.returns-clause-durable
 returns-clause-durable g c pairs secures =
@@ -127,10 +99,8 @@ returns-clause-durable g c pairs secures =
     let key = c.args.key in
     let value = c.args.value in
     let keeps = secures.keeps in
-    let absent : is_some (value_of pairs key) ≡ false =
-    ap is_some (sym (keeps.table.same key)) ∙ ap (λ (z : ℤ). is_some (get int_cmp old.pairs z)) (sym (to_z-of_z w64 key c.ranges.key)) ∙ sym c.contains_key.ensures ∙ c.if-contains_key.false in
-    let room : used_bytes pairs ≤ 66846592 = omega (arith, c.gate_place-bytes.ensures, c.len.ensures.len, keeps.table.count, c.if-bytes-gt-LOG_LIMIT.false) in
-    let same : (to_z w64 (of_z w64 key), to_z w64 (of_z w64 value)) ≡ (key, value) = ap (λ (z : ℤ). (z, to_z w64 (of_z w64 value))) (to_z-of_z w64 key c.ranges.key) ∙ ap (λ (z : ℤ). (key, z)) (to_z-of_z w64 value c.ranges.value) in
-    let settled = subst (λ (p : ℤ × ℤ). IsSettled D.content D.may_leave new.writer 2 (map pair_body pairs ++ pair_body p ∷ [])) same (c.in_ok-force_pair.ensures.durable (map pair_body pairs) (settled_of D.content D.may_leave old pairs secures)) in
+    let absent = has_key old.pairs pairs key c.contains_key.result false keeps.table c.ranges.key c.contains_key.ensures c.if-contains_key.false in
+    let room : used_bytes pairs ≤ log_limit = omega (arith, c.gate_place-bytes.ensures, c.len.ensures.len, keeps.table.count, c.if-bytes-gt-LOG_LIMIT.false) in
+    let settled = subst (λ (p : ℤ × ℤ). IsSettled D.content D.may_leave new.writer 2 (map pair_body pairs ++ pair_body p ∷ [])) (same_pair key value (c.ranges.key, c.ranges.value)) (c.in_ok-force_pair.ensures.durable (map pair_body pairs) (settled_of D.content D.may_leave old pairs secures)) in
     let after = (accepted D.content old pairs key value keeps absent room).1 in
     secures_more D.content D.may_leave new pairs (key, value) (pairs_after pairs (Insert key value)) after (returns-clause-reply g c pairs keeps).1 settled

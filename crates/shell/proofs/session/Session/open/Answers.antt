@@ -1,9 +1,9 @@
-use Rattle.std.proofs.Common.{inr, [], refl, sym, ◌∙◌, subst, arith}
+use Rattle.std.proofs.Common.{inr, [], refl, sym, ◌∙◌, subst}
 use Rattle.std.specs.Option.{ForSome}
 use Rattle.disk_core.specs.Crash.{LeavesOnly}
 use Rattle.disk_core.proofs.Moments.{weaker}
 use Rattle.lane_format.specs.Writer.{disk_of, even_file}
-use Rattle.lane_format.specs.Crash.{IsOpen}
+use Rattle.lane_format.specs.Lane.{IsOpen}
 use Rattle.shell.specs.Log.{BeginsWith}
 use Rattle.shell.specs.Opening.{IsFound}
 use Rattle.shell.specs.Survival.{LeftUnbegun}

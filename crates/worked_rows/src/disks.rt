@@ -1,5 +1,5 @@
 // What no clause says: that the calls succeed with ample memory, and what a file of the system gives.
-use super::*;
+use disk_core::{Disk, Failed, FileDisk, FileName, MemDisk};
 use std::alloc::Global;
 use std::fs;
 use std::fs::File;
@@ -19,29 +19,63 @@ fn each_file_has_its_name(rt: HostRuntime) -> Result<(), Fail> {
     Ok(())
 }
 
+/// A call of a disk.
+#[derive(Clone, Copy)]
+enum Call {
+    Size,
+    Read { at: u64 },
+    Write { at: u64, bytes: &'static [u8] },
+    Sync,
+}
+
+/// What a disk answers, as a number: how many bytes there are, or the byte that is read, or 0.
+fn answer(disk: &mut MemDisk, call: Call) -> Result<u64, Failed> {
+    let size = disk.bytes().len() as u64;
+    match call {
+        Call::Size => disk.size(),
+        Call::Read { at } if at < size => {
+            let mut byte = [0];
+            disk.read_at(at, &mut byte)?;
+            Ok(byte[0] as u64)
+        }
+        Call::Write { at, bytes } if at <= size => {
+            disk.write_at(at, bytes)?;
+            Ok(0)
+        }
+        Call::Sync => {
+            disk.sync()?;
+            Ok(0)
+        }
+        _ => Err(Failed),
+    }
+}
+
 #[test]
 fn a_disk_in_memory_keeps_what_is_written_and_fails_where_it_is_told(
     rt: HostRuntime,
 ) -> Result<(), Fail> {
     let alloc = rt.alloc();
-    let bytes = b"abcd".to_vec(alloc)?;
-    let mut disk = MemDisk::new(alloc, bytes, 64 + 6 + 64 + 64 + 64 + 64)?.failing(
+    let room = 64 + 6 + 64 + 64 + 64 + 64;
+    let mut disk = MemDisk::new(alloc, b"abcd".to_vec(alloc)?, room)?.failing(
         vec![in alloc; 2, 4]?,
         vec![in alloc; 3]?,
     );
-    assert_eq!(rt; disk.size(), Ok(4));
-    assert_eq!(rt; disk.write_at(2, b"xyz"), Ok(()));
-    assert_eq!(rt; disk.write_at(0, b""), Err(Failed));
-    assert_eq!(rt; disk.sync(), Ok(()));
-    assert_eq!(rt; disk.sync(), Err(Failed));
-    let mut piece = [0; 2];
-    assert_eq!(rt; disk.read_at(3, &mut piece), Ok(()));
-    assert_eq!(rt; piece, *b"yz");
-    assert_eq!(rt; disk.size(), Err(Failed));
-    assert_eq!(rt; disk.size(), Ok(5));
-    assert_eq!(rt; disk.write_at(0, b"a"), Err(Failed));
-    assert_eq!(rt; disk.sync(), Ok(()));
-    assert_eq!(rt; disk.sync(), Err(Failed));
+    let write = |at, bytes| Call::Write { at, bytes };
+    for (call, want) in [
+        (Call::Size, Ok(4)),
+        (write(2, b"xyz"), Ok(0)),
+        (write(0, b""), Err(Failed)),
+        (Call::Sync, Ok(0)),
+        (Call::Sync, Err(Failed)),
+        (Call::Read { at: 3 }, Ok(b'y' as u64)),
+        (Call::Size, Err(Failed)),
+        (Call::Size, Ok(5)),
+        (write(0, b"a"), Err(Failed)),
+        (Call::Sync, Ok(0)),
+        (Call::Sync, Err(Failed)),
+    ] {
+        assert_eq!(rt; answer(&mut disk, call), want);
+    }
     assert_eq!(rt; disk.bytes(), b"abxyz".as_slice());
     Ok(())
 }

@@ -1,6 +1,6 @@
 // The bytes of a lane file from outside, the calls after a disk fault, and what a crash leaves then.
-use crate::{FileName, LaneFault, LaneWriter};
 use disk_core::MemDisk;
+use lane_format::{FileName, LaneFault, LaneWriter};
 use std::alloc::Global;
 use std::test::Fail;
 

@@ -1,30 +1,21 @@
 // Worked examples from outside, and that each call succeeds with ample memory.
-use super::*;
+use row_types::{
+    Block, Name, Piece2, Pieces, Row, Schema, SchemaFault, SlotFault, TableDef, Text, Value,
+    schema_texts_are_short,
+};
+use sql_parse::{Statement, parse};
 use std::alloc::Global;
 use std::test::Fail;
 
-fn name(alloc: Global, text: &str) -> Result<Name, Fail> {
-    Ok(Name::new(alloc, text)?.ok_or("no name")?)
-}
-
-fn def(
-    alloc: Global,
-    table: &str,
-    columns: &[(&str, Kind)],
-    keys: &[u8],
-) -> Result<TableDef, Fail> {
-    let mut made = Vec::new(alloc);
-    for (column, kind) in columns {
-        made.push(Column {
-            name: name(alloc, column)?,
-            kind: *kind,
-        })?;
+/// The definition that a CREATE TABLE has.
+pub(crate) fn table(alloc: Global, text: &str) -> Result<TableDef, Fail> {
+    if text.len() > 1000 {
+        return Err(Fail::from("the text is too long"));
     }
-    Ok(TableDef {
-        name: name(alloc, table)?,
-        columns: Columns::new(made),
-        keys: Marks::new(keys.to_vec(alloc)?),
-    })
+    match parse(alloc, text, 0) {
+        Ok(Statement::Create(table)) => Ok(table),
+        _ => Err(Fail::from("no table is defined")),
+    }
 }
 
 fn pair(alloc: Global, number: i64, text: &str) -> Result<Row, Fail> {
@@ -48,63 +39,59 @@ fn names_have_1_to_32_bytes(rt: HostRuntime) -> Result<(), Fail> {
     Ok(())
 }
 
-fn asked(
-    schema: &mut Schema,
-    alloc: Global,
-    table: &str,
-    columns: &[(&str, Kind)],
-    keys: &[u8],
-) -> Result<Option<SchemaFault>, Fail> {
-    let made = def(alloc, table, columns, keys)?;
-    Ok(schema.add(&made).err())
-}
+/// A table of 33 columns.
+const MANY: &str =
+    "CREATE TABLE z (id INT, id INT, id INT, id INT, id INT, id INT, id INT, id INT, id INT, id INT, id INT, id INT, id INT, id INT, id INT, id INT, id INT, id INT, id INT, id INT, id INT, id INT, id INT, id INT, id INT, id INT, id INT, id INT, id INT, id INT, id INT, id INT, id INT)";
 
 #[test]
 fn tables_are_refused_in_order(rt: HostRuntime) -> Result<(), Fail> {
-    let alloc = rt.alloc();
-    let id = ("id", Kind::Int);
-    let n = ("n", Kind::Int);
-    let t = ("t", Kind::Text(3));
-    let wide = ("t", Kind::Text(4093));
-    let wider = ("t", Kind::Text(4086));
-    let widest = ("t", Kind::Text(4085));
     let no_key = Some(SchemaFault::NoKey);
-    let mut schema = Schema::empty(alloc);
-    let s = &mut schema;
-    assert_eq!(rt; asked(s, alloc, "kv", &[id, n], &[0])?, None);
-    assert_eq!(rt;
-        asked(s, alloc, "kv", &[id; 33], &[0])?,
-        Some(SchemaFault::TableExists)
-    );
-    assert_eq!(rt; asked(s, alloc, "x", &[t], &[])?, no_key);
-    assert_eq!(rt; asked(s, alloc, "x", &[t], &[0])?, no_key);
-    assert_eq!(rt; asked(s, alloc, "x", &[id, n], &[0, 1])?, no_key);
-    assert_eq!(rt;
-        asked(s, alloc, "y", &[id, wide], &[0])?,
-        Some(SchemaFault::TooWide { bytes: 4104 })
-    );
-    assert_eq!(rt;
-        asked(s, alloc, "y", &[id, wider], &[0])?,
-        Some(SchemaFault::TooWide { bytes: 4097 })
-    );
-    assert_eq!(rt;
-        asked(s, alloc, "z", &[id, n, t, n, id], &[])?,
-        Some(SchemaFault::SameName { place: 3 })
-    );
-    assert_eq!(rt;
-        asked(s, alloc, "z", &[id; 33], &[])?,
-        Some(SchemaFault::Columns { count: 33 })
-    );
-    assert_eq!(rt; asked(s, alloc, "KV", &[id, widest], &[0])?, None);
-    for table in [
-        "a", "b", "c", "d", "e", "f", "g", "h", "i", "j", "k", "l", "m", "o",
+    let mut schema = Schema::empty(rt.alloc());
+    for (text, want) in [
+        ("CREATE TABLE kv (id INT PRIMARY KEY, n INT)", None),
+        (
+            "CREATE TABLE kv (id INT, id INT)",
+            Some(SchemaFault::TableExists),
+        ),
+        ("CREATE TABLE x (t TEXT(3))", no_key),
+        ("CREATE TABLE x (t TEXT(3) PRIMARY KEY)", no_key),
+        (
+            "CREATE TABLE x (id INT PRIMARY KEY, n INT PRIMARY KEY)",
+            no_key,
+        ),
+        (
+            "CREATE TABLE y (id INT PRIMARY KEY, t TEXT(4093))",
+            Some(SchemaFault::TooWide { bytes: 4104 }),
+        ),
+        (
+            "CREATE TABLE y (id INT PRIMARY KEY, t TEXT(4086))",
+            Some(SchemaFault::TooWide { bytes: 4097 }),
+        ),
+        (
+            "CREATE TABLE z (id INT, n INT, t TEXT(3), n INT, id INT)",
+            Some(SchemaFault::SameName { place: 3 }),
+        ),
+        (MANY, Some(SchemaFault::Columns { count: 33 })),
+        ("CREATE TABLE KV (id INT PRIMARY KEY, t TEXT(4085))", None),
+        ("CREATE TABLE a (id INT PRIMARY KEY)", None),
+        ("CREATE TABLE b (id INT PRIMARY KEY)", None),
+        ("CREATE TABLE c (id INT PRIMARY KEY)", None),
+        ("CREATE TABLE d (id INT PRIMARY KEY)", None),
+        ("CREATE TABLE e (id INT PRIMARY KEY)", None),
+        ("CREATE TABLE f (id INT PRIMARY KEY)", None),
+        ("CREATE TABLE g (id INT PRIMARY KEY)", None),
+        ("CREATE TABLE h (id INT PRIMARY KEY)", None),
+        ("CREATE TABLE i (id INT PRIMARY KEY)", None),
+        ("CREATE TABLE j (id INT PRIMARY KEY)", None),
+        ("CREATE TABLE k (id INT PRIMARY KEY)", None),
+        ("CREATE TABLE l (id INT PRIMARY KEY)", None),
+        ("CREATE TABLE m (id INT PRIMARY KEY)", None),
+        ("CREATE TABLE o (id INT PRIMARY KEY)", None),
+        (MANY, Some(SchemaFault::Tables { limit: 16 })),
     ] {
-        assert_eq!(rt; asked(s, alloc, table, &[id], &[0])?, None);
+        let made = table(rt.alloc(), text)?;
+        assert_eq!(rt; schema.add(&made).err(), want, "{text}");
     }
-    assert_eq!(rt;
-        asked(s, alloc, "p", &[id; 33], &[0])?,
-        Some(SchemaFault::Tables { limit: 16 })
-    );
     assert_eq!(rt; schema.copy()?.tables().len(), 16);
     Ok(())
 }
@@ -112,12 +99,7 @@ fn tables_are_refused_in_order(rt: HostRuntime) -> Result<(), Fail> {
 /// A table with a whole number and a text of at most three bytes.
 fn small(alloc: Global) -> Result<Schema, Fail> {
     let mut schema = Schema::empty(alloc);
-    schema.add(&def(
-        alloc,
-        "kv",
-        &[("id", Kind::Int), ("t", Kind::Text(3))],
-        &[0],
-    )?)?;
+    schema.add(&table(alloc, "CREATE TABLE kv (id INT PRIMARY KEY, t TEXT(3))")?)?;
     Ok(schema)
 }
 

@@ -1,7 +1,9 @@
 // What no clause says: that a call with ample memory doesn't answer want of memory. The rows go through the public call.
-use super::*;
+ghost use Rattle.std.specs.Prelude.{◌≡◌, length, IfOk};
+
 use disk_core::{LaneDisks, MemDisk, OutOfMemory, Store};
 use io_edge::{MemSink, MemSource, Word};
+use shell::{Ended, ptime};
 use std::alloc::Global;
 use std::test::Fail;
 
@@ -24,24 +26,42 @@ fn run(
     script: &str,
     pulls: &[u64],
     pushes: &[u64],
-) -> Result<Ran, OutOfMemory> {
+) -> Result<Ran, Fail> {
+    let words = words(alloc)?;
+    let mut source = MemSource::new(script.as_bytes().to_vec(alloc)?, pulls.to_vec(alloc)?);
+    let room = Vec::with_capacity(alloc, 1000)?;
+    let mut sink = MemSink::with_room(room, pushes.to_vec(alloc)?);
+    let store = store(alloc, even)?;
+    let Ended { status, store } = ptime(alloc, &words, &mut source, &mut sink, store);
+    let disk = log_file(store)?;
+    Ok(Ran { status, sink, disk })
+}
+
+fn words(alloc: Global) -> Result<Vec<Word>, OutOfMemory> {
     let mut words = Vec::new(alloc);
     for word in ["run", "folder"] {
         words.push(Word::new(alloc, word)?)?;
     }
-    let mut source = MemSource::new(script.as_bytes().to_vec(alloc)?, pulls.to_vec(alloc)?);
-    let room = Vec::with_capacity(alloc, 1000)?;
-    let mut sink = MemSink::with_room(room, pushes.to_vec(alloc)?);
+    Ok(words)
+}
+
+fn store(alloc: Global, even: MemDisk) -> Result<Store<MemDisk>, OutOfMemory>
+    ensures { IfOk result (λ store. length store.lanes.items ≡ 1) }
+{
     let odd = disk(alloc, b"")?;
     let lane = LaneDisks { even, odd };
-    let store = Store {
+    Ok(Store {
         area_a: disk(alloc, b"")?,
         area_b: disk(alloc, b"")?,
         lanes: vec![in alloc; lane]?,
-    };
-    let Ended { status, mut store } = ptime(alloc, &words, &mut source, &mut sink, store);
-    let disk = store.lanes.pop().unwrap().even;
-    Ok(Ran { status, sink, disk })
+    })
+}
+
+fn log_file(mut store: Store<MemDisk>) -> Result<MemDisk, Fail> {
+    match store.lanes.pop() {
+        Some(lane) => Ok(lane.even),
+        None => Err(Fail::from("no lane came back")),
+    }
 }
 
 const PAIR: &str = "session 1\nINSERT INTO kv VALUES (1, 10);\nSELECT * FROM kv WHERE id = 1;\n";
@@ -156,7 +176,7 @@ impl Failing {
     }
 
     /// Runs it, and whether what a crash leaves then has the pairs acknowledged, and at most one more.
-    fn is_borne(&self, alloc: Global, choice: &[u8], whole: bool) -> Result<bool, OutOfMemory> {
+    fn is_borne(&self, alloc: Global, choice: &[u8], whole: bool) -> Result<bool, Fail> {
         let even = disk(alloc, self.file)?.failing(vec![in alloc; self.failing]?, Vec::new(alloc));
         let ran = run(alloc, even, self.script, &[], &[])?;
         if ran.sink.bytes() != self.shown().as_bytes() {
@@ -170,7 +190,7 @@ impl Failing {
         Ok(shown == holding(kept).as_bytes() || shown == holding(kept.saturating_add(1)).as_bytes())
     }
 
-    fn is_borne_always(&self, alloc: Global) -> Result<bool, OutOfMemory> {
+    fn is_borne_always(&self, alloc: Global) -> Result<bool, Fail> {
         for choice in [b"".as_slice(), b"\0", b"\x01", b"\xff"] {
             if !self.is_borne(alloc, choice, false)? || !self.is_borne(alloc, choice, true)? {
                 return Ok(false);

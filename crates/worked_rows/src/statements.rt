@@ -1,5 +1,5 @@
 // What no clause says: that with ample memory each statement is read, and the places of faults in numbers.
-use super::*;
+use sql_parse::{ParseFault, Statement, parse};
 use std::alloc::Global;
 use std::test::Fail;
 

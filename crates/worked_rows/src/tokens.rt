@@ -1,5 +1,5 @@
 // What no clause says: that with ample memory the tokens come, and where.
-use super::*;
+use sql_lex::{End, Keyword, LexFault, Sign, TokenKind, lex, scan_tokens};
 use std::test::Fail;
 
 #[test]

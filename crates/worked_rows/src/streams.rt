@@ -1,5 +1,5 @@
 // What no clause says: that the calls succeed with ample memory, and what standard input and output do.
-use super::*;
+use io_edge::{Failed, MemSink, MemSource, Sink, Source, StdSink, StdSource, Word};
 use std::alloc::AllocError;
 use std::test::Fail;
 

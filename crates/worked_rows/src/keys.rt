@@ -1,9 +1,9 @@
 // Worked examples from outside.
 ghost use Rattle.std.specs.Prelude.{◌≡◌};
 
-use super::*;
-use row_types::{Column, Columns, Kind, Marks, Name, Row, Schema, TableDef, Value};
-use std::alloc::Global;
+use crate::rows::table;
+use key_space::{Held, Key, LockName, Mode, Range, Verdict, answer_to, key_of};
+use row_types::{Row, Schema, Value};
 use std::test::Fail;
 
 #[test]
@@ -93,19 +93,8 @@ fn answers_to_requests(rt: HostRuntime) {
 #[test]
 fn the_key_of_a_row_is_that_of_its_marked_column(rt: HostRuntime) -> Result<(), Fail> {
     let alloc = rt.alloc();
-    let mut columns = Vec::new(alloc);
-    for column in ["n", "id"] {
-        columns.push(Column {
-            name: name(alloc, column)?,
-            kind: Kind::Int,
-        })?;
-    }
     let mut schema = Schema::empty(alloc);
-    schema.add(&TableDef {
-        name: name(alloc, "kv")?,
-        columns: Columns::new(columns),
-        keys: Marks::new([1].to_vec(alloc)?),
-    })?;
+    schema.add(&table(alloc, "CREATE TABLE kv (n INT, id INT PRIMARY KEY)")?)?;
     let mut values = Vec::new(alloc);
     values.push(Value::Int(7))?;
     values.push(Value::Int(-7))?;
@@ -114,8 +103,4 @@ fn the_key_of_a_row_is_that_of_its_marked_column(rt: HostRuntime) -> Result<(), 
     assert!(rt; schema.fits(0, &row));
     assert_eq!(rt; key_of(&schema, 0, &row), Key::of_int(-7));
     Ok(())
-}
-
-fn name(alloc: Global, text: &str) -> Result<Name, Fail> {
-    Ok(Name::new(alloc, text)?.ok_or("no name")?)
 }

@@ -1,0 +1,232 @@
+# What happens where a call of the system fails, is interrupted, or is the last one before the process is killed. strace
+# makes that happen at the call of a given name and number. checks/run has the words that are used here.
+
+if [ -n "${PTIME_BIN:-}" ]; then
+    readonly program="$PTIME_BIN"
+else
+    readonly program="$checks/../crates/ptime/out/ptime"
+fi
+readonly three_inserts=$'session 1\nINSERT INTO kv VALUES (1, 10);\nINSERT INTO kv VALUES (2, 20);\nINSERT INTO kv VALUES (3, 30);\n'
+readonly three_lookups=$'session 1\nSELECT * FROM kv WHERE id = 1;\nSELECT * FROM kv WHERE id = 2;\nSELECT * FROM kv WHERE id = 3;\n'
+readonly disk_fault=$'fault DISK lane0.even\n'
+
+# Runs a script over a folder under strace, which looks at the calls on one path alone and does what its last word says.
+# Beside the folder come the script, that path and the word.
+run_traced() {
+    printf '%s' "$2" >"$scratch/script"
+    # The shell tells of a program that was killed, on its own standard error.
+    {
+        timeout 300 strace -f -qq -o "$scratch/calls" -P "$3" -e "$4" \
+            "$program" run "$1" <"$scratch/script" >"$scratch/stdout" 2>"$scratch/stderr"
+        status=$?
+    } 2>/dev/null
+}
+
+want_shown() {
+    printf '%s' "$1" >"$scratch/wanted"
+    want_output "$scratch/wanted"
+}
+
+# So many of the three inserts are acknowledged, and the run stops at the next one; with none begun say none.
+shown_stopping() {
+    local i
+    if [ "$1" != none ]; then
+        echo 'session 1'
+        for ((i = 0; i < 3; i++)); do
+            if [ "$i" -lt "$1" ]; then echo 'ok 1'; else echo stopped; fi
+        done
+    fi
+    printf '%s' "$disk_fault"
+}
+
+# A later run finds the first so many pairs: at least the first number, at most the second.
+want_pairs_between() {
+    local pairs shown i
+    run run "$1" < <(printf '%s' "$three_lookups") >"$scratch/stdout"
+    want_status 0
+    for ((pairs = $2; pairs <= $3; pairs++)); do
+        shown=$'session 1\n'
+        for i in 1 2 3; do
+            if [ "$i" -le "$pairs" ]; then shown+="$i, ${i}0"$'\nrows 1\n'; else shown+=$'rows 0\n'; fi
+        done
+        cmp -s "$scratch/stdout" <(printf '%s' "$shown") && return
+    done
+    differs "a later run finds other pairs than the first $2 to $3"
+}
+
+# How many of the inserts are acknowledged where the call of this name and number is the last one, and which one it
+# belongs to. An opening over no file has four syncs and three writes, and each insert two of both.
+place_of() {
+    local opening=3
+    [ "$1" = fdatasync ] && opening=4
+    if [ "$2" -le "$opening" ]; then
+        before=none least=0 most=0
+    else
+        before=$((($2 - opening - 1) / 2)) least=$before most=$((before + 1))
+    fi
+}
+
+new_folder() {
+    rm -rf "$scratch/traced"
+    mkdir "$scratch/traced"
+    folder="$scratch/traced"
+}
+
+# Each write and each sync of the log file fails in turn, is interrupted in turn, and is where the process is killed.
+check_faults_of_changes() {
+    local folder call number before least most
+    for call in pwrite64:9 fdatasync:10; do
+        for ((number = 1; number <= ${call#*:}; number++)); do
+            place_of "${call%:*}" "$number"
+
+            new_folder
+            run_traced "$folder" "$three_inserts" "$folder/lane0.even" "inject=${call%:*}:error=EIO:when=$number"
+            want_status 4
+            want_shown "$(shown_stopping "$before")"$'\n'
+            want_pairs_between "$folder" "$least" "$most"
+            end_case "${call%:*} $number fails"
+
+            new_folder
+            run_traced "$folder" "$three_inserts" "$folder/lane0.even" "inject=${call%:*}:error=EINTR:when=$number"
+            want_status 0
+            want_shown $'session 1\nok 1\nok 1\nok 1\n'
+            want_pairs_between "$folder" 3 3
+            end_case "${call%:*} $number is interrupted"
+
+            new_folder
+            run_traced "$folder" "$three_inserts" "$folder/lane0.even" "inject=${call%:*}:signal=KILL:when=$number"
+            want_status 137
+            want_shown ''
+            want_pairs_between "$folder" "$least" "$most"
+            end_case "killed at ${call%:*} $number"
+        done
+    done
+}
+
+# A folder whose log file has the pair 1, 10.
+folder_with_pair() {
+    new_folder
+    put_hex "$folder/lane0.even" "$head_hex${pair_hex}00"
+}
+
+# The question for the size and each read of a log file fail in turn, and the reads are interrupted.
+check_faults_of_reads() {
+    local folder call
+    for call in statx:1 pread64:1 pread64:2 pread64:3 pread64:4; do
+        folder_with_pair
+        run_traced "$folder" "$three_lookups" "$folder/lane0.even" "inject=${call%:*}:error=EIO:when=${call#*:}"
+        want_status 4
+        want_shown "$disk_fault"
+        want_hex "$folder/lane0.even" "$head_hex${pair_hex}00"
+        end_case "${call/:/ } fails"
+        [ "$call" = statx:1 ] && continue
+
+        folder_with_pair
+        run_traced "$folder" "$three_lookups" "$folder/lane0.even" "inject=${call%:*}:error=EINTR:when=${call#*:}"
+        want_status 0
+        want_shown $'session 1\n1, 10\nrows 1\nrows 0\nrows 0\n'
+        end_case "${call/:/ } is interrupted"
+    done
+}
+
+# The log file can't be opened, or its folder can't be synced.
+check_faults_of_opening() {
+    local folder word
+    for word in openat:error=EACCES fsync:error=EIO; do
+        folder_with_pair
+        if [ "${word%%:*}" = fsync ]; then
+            run_traced "$folder" "$three_inserts" "$folder" "inject=$word"
+        else
+            run_traced "$folder" "$three_inserts" "$folder/lane0.even" "inject=$word"
+        fi
+        want_status 4
+        want_shown "$disk_fault"
+        want_hex "$folder/lane0.even" "$head_hex${pair_hex}00"
+        end_case "${word%%:*} fails"
+    done
+}
+
+# Standard input fails at its first read and at its end, and is interrupted there.
+check_faults_of_input() {
+    local folder number
+    for number in 1 2; do
+        folder_with_pair
+        run_traced "$folder" "$three_inserts" "$scratch/script" "inject=read:error=EIO:when=$number"
+        want_status 5
+        want_shown $'fault SOURCE\n'
+        want_hex "$folder/lane0.even" "$head_hex${pair_hex}00"
+        end_case "read $number fails"
+
+        new_folder
+        run_traced "$folder" "$three_inserts" "$scratch/script" "inject=read:error=EINTR:when=$number"
+        want_status 0
+        want_shown $'session 1\nok 1\nok 1\nok 1\n'
+        end_case "read $number is interrupted"
+    done
+}
+
+# Standard output, which a long text takes three writes for, fails at each of them, and is interrupted there.
+check_faults_of_output() {
+    local folder number script
+    script="session 1"$'\n'"$(yes 'SELECT * FROM kv WHERE id = 1;' | head -n 1500)"$'\n'
+    { echo 'session 1'; yes 'rows 0' | head -n 1500; } >"$scratch/whole"
+    for number in 1 2 3; do
+        new_folder
+        run_traced "$folder" "$script" "$scratch/stdout" "inject=write:error=EIO:when=$number"
+        want_status 6
+        head -c "$(stat -c %s "$scratch/stdout")" "$scratch/whole" >"$scratch/wanted"
+        want_output "$scratch/wanted"
+        [ "$(stat -c %s "$scratch/stdout")" -lt 10510 ] || differs 'all of it was printed'
+        end_case "write $number fails"
+
+        new_folder
+        run_traced "$folder" "$script" "$scratch/stdout" "inject=write:error=EINTR:when=$number"
+        want_status 0
+        want_output "$scratch/whole"
+        end_case "write $number is interrupted"
+    done
+}
+
+# The calls on the log file, in order, with the length and the place of each read and write.
+calls_on_log() {
+    sed -E 's/^[0-9]+ +//; s/^(pwrite64|pread64)\([0-9]+, ".*"(\.\.\.)?, ([0-9]+), ([0-9]+)\).*/\1 \3 \4/; s/\(.*//' "$scratch/calls"
+}
+
+# An insert into a folder with no log file, and a look-up in a log: these calls are made, and no others.
+check_calls() {
+    local folder calls=openat,statx,pread64,pwrite64,fdatasync,fsync,ftruncate,close
+    new_folder
+    run_traced "$folder" "$(cat "$checks/cases/row/script")"$'\n' "$folder/lane0.even" "trace=$calls"
+    want_status 0
+    cmp -s <(calls_on_log) <(printf '%s\n' openat fdatasync statx 'pwrite64 1 0' fdatasync 'pwrite64 11 1' fdatasync \
+        'pwrite64 1 0' fdatasync 'pwrite64 21 12' fdatasync 'pwrite64 1 11' fdatasync close) ||
+        differs "the calls are $(calls_on_log | tr '\n' ';')"
+    end_case 'calls of an insert'
+
+    folder_with_pair
+    run_traced "$folder" "$three_lookups" "$folder/lane0.even" "trace=$calls"
+    want_status 0
+    cmp -s <(calls_on_log) <(printf '%s\n' openat fdatasync statx 'pread64 1 0' 'pread64 11 0' 'pread64 22 11' \
+        'pread64 1 32' close) ||
+        differs "the calls are $(calls_on_log | tr '\n' ';')"
+    end_case 'calls of a look-up'
+}
+
+# Whether strace is there, and may trace.
+can_trace() {
+    command -v strace >/dev/null && strace -qq -o "$scratch/calls" true 2>/dev/null
+}
+
+check_faults() {
+    if ! can_trace; then
+        echo 'the cases of checks/faults.bash are skipped: they need strace'
+        skipped=80
+        return
+    fi
+    check_faults_of_changes
+    check_faults_of_reads
+    check_faults_of_opening
+    check_faults_of_input
+    check_faults_of_output
+    check_calls
+}
