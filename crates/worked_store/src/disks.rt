@@ -112,23 +112,46 @@ fn a_crash_leaves_what_is_chosen(rt: HostRuntime) -> Result<(), Fail> {
     Ok(())
 }
 
+/// What a file answers, as a number: how many bytes there are, or the byte that is read, or 0.
+fn file_answer(disk: &mut FileDisk, call: Call) -> Result<u64, Failed> {
+    match call {
+        Call::Size => disk.size(),
+        Call::Read { at } => {
+            let mut byte = [0];
+            disk.read_at(at, &mut byte)?;
+            Ok(byte[0] as u64)
+        }
+        Call::Write { at, bytes } => {
+            disk.write_at(at, bytes)?;
+            Ok(0)
+        }
+        Call::Sync => {
+            disk.sync()?;
+            Ok(0)
+        }
+    }
+}
+
 #[test]
 fn a_file_keeps_what_is_written(rt: HostRuntime) -> Result<(), Fail> {
     let path = "a_file_of_a_test";
     fs::write(&rt, path, "abcd")?;
     let file = File::options().read(true).write(true).open(&rt, path)?;
     let mut disk = FileDisk::new(file);
-    let mut piece = [0; 3];
-    assert_eq!(rt; disk.size(), Ok(4));
-    assert_eq!(rt; disk.write_at(2, b"xyz"), Ok(()));
-    assert_eq!(rt; disk.sync(), Ok(()));
-    assert_eq!(rt; disk.size(), Ok(5));
-    assert_eq!(rt; disk.read_at(2, &mut piece), Ok(()));
-    assert_eq!(rt; piece, *b"xyz");
-    for (at, want) in [(3, Err(Failed)), (u64::MAX, Err(Failed)), (1, Ok(()))] {
-        assert_eq!(rt; disk.read_at(at, &mut piece), want, "at {at}");
+    let write = |at, bytes| Call::Write { at, bytes };
+    for (call, want) in [
+        (Call::Size, Ok(4)),
+        (write(2, b"xyz"), Ok(0)),
+        (Call::Sync, Ok(0)),
+        (Call::Size, Ok(5)),
+        (Call::Read { at: 4 }, Ok(b'z' as u64)),
+        (Call::Read { at: 5 }, Err(Failed)),
+        (Call::Read { at: u64::MAX }, Err(Failed)),
+        (Call::Read { at: 0 }, Ok(b'a' as u64)),
+        (write(u64::MAX, b"xyz"), Err(Failed)),
+    ] {
+        assert_eq!(rt; file_answer(&mut disk, call), want);
     }
-    assert_eq!(rt; disk.write_at(u64::MAX, b"xyz"), Err(Failed));
     assert_eq!(rt; fs::read(&rt, path)?.as_slice(), b"abxyz".as_slice());
     fs::remove_file(&rt, path)?;
     let mut missing = FileDisk::missing();

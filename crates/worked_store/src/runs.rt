@@ -68,39 +68,8 @@ const PAIR: &str = "session 1\nINSERT INTO kv VALUES (1, 10);\nSELECT * FROM kv 
 
 const PAIR_SHOWN: &str = "session 1\nok 1\n1, 10\nrows 1\n";
 
-const AGAIN: &str = "session 1\nINSERT INTO kv VALUES (1, 9);\nSELECT * FROM kv WHERE id = 2;\n";
-
-const EMPTY: &[u8] = b"\x01\x02\0\0\0\0\0\0\0\0\0\0";
-
 const ONE: &[u8] =
     b"\x01\x02\0\0\0\0\0\0\0\0\0\x01\x10\0\0\0\x01\0\0\0\0\0\0\0\x0a\0\0\0\0\0\0\0\0";
-
-const OTHER_GENERATION: &[u8] =
-    b"\x01\x04\0\0\0\0\0\0\0\0\0\x01\x10\0\0\0\x01\0\0\0\0\0\0\0\x0a\0\0\0\0\0\0\0\0";
-
-#[test]
-fn rows_in_order_over_one_file(rt: HostRuntime) -> Result<(), Fail> {
-    let rows = [
-        ("", 0, "", EMPTY),
-        (PAIR, 0, PAIR_SHOWN, ONE),
-        (AGAIN, 0, "session 1\nrefused DUPLICATE 1\nrows 0\n", ONE),
-        ("session 2\n", 7, "fault SCRIPT\n", ONE),
-    ];
-    let mut even = disk(rt.alloc(), b"")?;
-    for (script, status, shown, file) in rows {
-        let ran = run(rt.alloc(), even, script, &[], &[])?;
-        assert_eq!(rt; ran.status, status);
-        assert_eq!(rt; ran.sink.bytes(), shown.as_bytes());
-        assert_eq!(rt; ran.disk.bytes(), file);
-        even = ran.disk;
-    }
-    let other = disk(rt.alloc(), OTHER_GENERATION)?;
-    let ran = run(rt.alloc(), other, PAIR, &[], &[])?;
-    assert_eq!(rt; ran.status, 8);
-    assert_eq!(rt; ran.sink.bytes(), b"fault DAMAGED\n".as_slice());
-    assert_eq!(rt; ran.disk.bytes(), OTHER_GENERATION);
-    Ok(())
-}
 
 #[test]
 fn a_source_or_a_sink_that_fails(rt: HostRuntime) -> Result<(), Fail> {

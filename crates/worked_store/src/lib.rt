@@ -1,0 +1,12 @@
+//! Tables of rows for what keeps and carries bytes: an input of a public call, and what has to come of it. They show what
+//! no clause says, above all that a call succeeds with ample memory.
+#![tactic(auto)]
+
+#[cfg(test)]
+mod disks;
+#[cfg(test)]
+mod lanes;
+#[cfg(test)]
+mod runs;
+#[cfg(test)]
+mod streams;
