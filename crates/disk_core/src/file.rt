@@ -7,11 +7,13 @@ ghost use Rattle.disk_core.specs.Memory.{faults_after};
 
 use crate::{Disk, Failed};
 use std::fs::File;
+use std::io;
 use std::marker::Model;
+use std::os::fd::AsRawFd;
 use std::os::unix::fs::FileExt;
 
 /// A file of the system, read and written at places. A read, a write or a sync that a signal interrupts is made again,
-/// and one that reads or writes a part is gone on with.
+/// and one that reads or writes a part is continued.
 #[derive(Drop)]
 pub struct FileDisk {
     file: Option<File>,
@@ -28,15 +30,17 @@ impl Model for FileDisk {
 }
 
 impl FileDisk {
-    /// Brings to the disk what was written to the file before, so that nothing is pending. Where that fails the file
-    /// counts as missing.
+    /// Brings to the disk what was written to the file before, so that nothing is pending, and has reads come from the
+    /// disk. Where that fails the file counts as missing.
     pub fn new(file: File) -> FileDisk
         ensures { result.faults ≡ 0 }
     {
-        let file = Some(file);
-        match sync_data(&file) {
-            Ok(()) => FileDisk { file, faults: 0 },
-            Err(Failed) => FileDisk::missing(),
+        match settle(&file) {
+            Ok(()) => FileDisk {
+                file: Some(file),
+                faults: 0,
+            },
+            Err(_) => FileDisk::missing(),
         }
     }
 
@@ -59,6 +63,16 @@ impl FileDisk {
             self.faults = self.faults.saturating_add(1);
         }
         answer
+    }
+}
+
+/// Syncs the file and drops the system's copies of its pages. After a sync that failed in an earlier process the system
+/// takes a page for clean that never reached the disk, and would give it to each reader until the machine stops.
+fn settle(file: &File) -> io::Result<()> {
+    file.sync_data()?;
+    match libc::posix_fadvise(file.as_raw_fd(), 0, 0, libc::POSIX_FADV_DONTNEED) {
+        0 => Ok(()),
+        error => Err(io::Error::from_raw_os_error(error)),
     }
 }
 
