@@ -9,12 +9,16 @@ use shell::{is_run, ptime};
 use std::env::{Env, FillError};
 use std::fs::File;
 use std::io;
+use std::os::fd::AsRawFd;
 use std::process::ExitCode;
 
 /// As long as the system lets a path be.
 const LONGEST_PATH: usize = 4096;
 
-/// The status that says that no memory was found.
+/// The number of standard error, the last of the standard streams.
+const LAST_STREAM: i32 = 2;
+
+/// The status that says that the program ran out of memory.
 const OUT_OF_MEMORY: u8 = 3;
 
 fn main(rt: HostRuntime) -> ExitCode {
@@ -40,7 +44,7 @@ fn run(rt: &HostRuntime, sink: &mut StdSink) -> Result<u8, OutOfMemory> {
 }
 
 /// Takes the numbers of standard streams that are closed, so that no file of a database gets one. Reading there finds
-/// the end, and writing fails.
+/// the end, and writing fails. One that can't be held is met again by `open_or_make`.
 fn hold_streams(rt: &HostRuntime) -> [Option<File>; 3] {
     let hold = || File::open(rt, "/dev/null").ok();
     [hold(), hold(), hold()]
@@ -97,13 +101,19 @@ fn open_log(rt: &HostRuntime, words: &[Word]) -> Result<FileDisk, OutOfMemory> {
     })
 }
 
-/// Opens a file, or makes it, and has its folder keep it.
+/// Opens a file, or makes it, for this process alone, and has its folder keep it. The folder comes first: where it gets
+/// a number of a standard stream, that number couldn't be held, and nothing is made.
 fn open_or_make(rt: &HostRuntime, folder: &str, path: &str) -> io::Result<File> {
+    let folder = File::open(rt, folder)?;
+    if folder.as_raw_fd() <= LAST_STREAM {
+        return Err(io::ErrorKind::Other.into());
+    }
     let file = File::options()
         .read(true)
         .write(true)
         .create(true)
         .open(rt, path)?;
-    File::open(rt, folder)?.sync_all()?;
+    file.try_lock()?;
+    folder.sync_all()?;
     Ok(file)
 }
