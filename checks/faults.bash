@@ -1,31 +1,5 @@
 # What happens where a call of the system fails, is interrupted, or is the last one before the process is killed. strace
-# makes that happen at the call of a given name and number. checks/run has the words that are used here.
-
-if [ -n "${PTIME_BIN:-}" ]; then
-    readonly program="$PTIME_BIN"
-else
-    readonly program="$checks/../crates/ptime/out/ptime"
-fi
-readonly three_inserts=$'session 1\nINSERT INTO kv VALUES (1, 10);\nINSERT INTO kv VALUES (2, 20);\nINSERT INTO kv VALUES (3, 30);\n'
-readonly three_lookups=$'session 1\nSELECT * FROM kv WHERE id = 1;\nSELECT * FROM kv WHERE id = 2;\nSELECT * FROM kv WHERE id = 3;\n'
-readonly disk_fault=$'fault DISK lane0.even\n'
-
-# Runs a script over a folder under strace, which looks at the calls on one path alone and does what its last word says.
-# Beside the folder come the script, that path and the word.
-run_traced() {
-    printf '%s' "$2" >"$scratch/script"
-    # The shell tells of a program that was killed, on its own standard error.
-    {
-        timeout 300 strace -f -qq -o "$scratch/calls" -P "$3" -e "$4" \
-            "$program" run "$1" <"$scratch/script" >"$scratch/stdout" 2>"$scratch/stderr"
-        status=$?
-    } 2>/dev/null
-}
-
-want_shown() {
-    printf '%s' "$1" >"$scratch/wanted"
-    want_output "$scratch/wanted"
-}
+# makes that happen at the call of a given name and number.
 
 # So many of the three inserts are acknowledged, and the run stops at the next one; with none begun say none.
 shown_stopping() {
@@ -66,12 +40,6 @@ place_of() {
     fi
 }
 
-new_folder() {
-    rm -rf "$scratch/traced"
-    mkdir "$scratch/traced"
-    folder="$scratch/traced"
-}
-
 # Each write and each sync of the log file fails in turn, is interrupted in turn, and is where the process is killed.
 check_faults_of_changes() {
     local folder call number before least most
@@ -101,12 +69,6 @@ check_faults_of_changes() {
             end_case "killed at ${call%:*} $number"
         done
     done
-}
-
-# A folder whose log file has the pair 1, 10.
-folder_with_pair() {
-    new_folder
-    put_hex "$folder/lane0.even" "$head_hex${pair_hex}00"
 }
 
 # The question for the size and each read of a log file fail in turn, and the reads are interrupted.
@@ -187,18 +149,13 @@ check_faults_of_output() {
     done
 }
 
-# The calls on the log file, in order, with the length and the place of each read and write.
-calls_on_log() {
-    sed -E 's/^[0-9]+ +//; s/^(pwrite64|pread64)\([0-9]+, ".*"(\.\.\.)?, ([0-9]+), ([0-9]+)\).*/\1 \3 \4/; s/\(.*//' "$scratch/calls"
-}
-
 # An insert into a folder with no log file, and a look-up in a log: these calls are made, and no others.
 check_calls() {
-    local folder calls=openat,statx,pread64,pwrite64,fdatasync,fsync,ftruncate,close
+    local folder calls=openat,flock,fadvise64,statx,pread64,pwrite64,fdatasync,fsync,ftruncate,close
     new_folder
     run_traced "$folder" "$(cat "$checks/cases/row/script")"$'\n' "$folder/lane0.even" "trace=$calls"
     want_status 0
-    cmp -s <(calls_on_log) <(printf '%s\n' openat fdatasync statx 'pwrite64 1 0' fdatasync 'pwrite64 11 1' fdatasync \
+    cmp -s <(calls_on_log) <(printf '%s\n' openat flock fdatasync fadvise64 statx 'pwrite64 1 0' fdatasync 'pwrite64 11 1' fdatasync \
         'pwrite64 1 0' fdatasync 'pwrite64 21 12' fdatasync 'pwrite64 1 11' fdatasync close) ||
         differs "the calls are $(calls_on_log | tr '\n' ';')"
     end_case 'calls of an insert'
@@ -206,21 +163,15 @@ check_calls() {
     folder_with_pair
     run_traced "$folder" "$three_lookups" "$folder/lane0.even" "trace=$calls"
     want_status 0
-    cmp -s <(calls_on_log) <(printf '%s\n' openat fdatasync statx 'pread64 1 0' 'pread64 11 0' 'pread64 22 11' \
+    cmp -s <(calls_on_log) <(printf '%s\n' openat flock fdatasync fadvise64 statx 'pread64 1 0' 'pread64 11 0' 'pread64 22 11' \
         'pread64 1 32' close) ||
         differs "the calls are $(calls_on_log | tr '\n' ';')"
     end_case 'calls of a look-up'
 }
 
-# Whether strace is there, and may trace.
-can_trace() {
-    command -v strace >/dev/null && strace -qq -o "$scratch/calls" true 2>/dev/null
-}
-
 check_faults() {
     if ! can_trace; then
-        echo 'the cases of checks/faults.bash are skipped: they need strace'
-        skipped=80
+        skip_cases 80 'the cases of checks/faults.bash need strace'
         return
     fi
     check_faults_of_changes

@@ -1,26 +1,4 @@
-# The checks of a log file that an earlier run, or nobody, has left. checks/run has the words that they use.
-
-# Runs a script over a folder. Beside the last two words come the lines of the script and of what has to be printed.
-step() {
-    local folder="$1" wanted="$2" script="$3" shown="$4"
-    run run "$folder" < <(printf '%s' "$script") >"$scratch/stdout"
-    printf '%s' "$shown" >"$scratch/wanted"
-    want_status "$wanted"
-    want_output "$scratch/wanted"
-}
-
-# Makes a file of the bytes that these digits stand for.
-put_hex() {
-    printf "$(sed 's/../\\x&/g' <<<"$2")" >"$1"
-}
-
-want_hex() {
-    put_hex "$scratch/bytes" "$2"
-    want_bytes "$1" "$scratch/bytes"
-}
-
-readonly head_hex=0102000000000000000000
-readonly pair_hex=011000000001000000000000000a00000000000000
+# Cases of a log file that an earlier run, or nobody, has left.
 
 # Four runs over one folder: an empty script, a pair, the pair again with another value, and what is no script.
 check_rows_in_order() {
@@ -136,17 +114,18 @@ log_of() {
     printf '\0'
 }
 
+readonly most_opened=3195659 most_with_room=3183170
+
 make_longest_log() {
+    [ -e "$scratch/longest" ] && return
     {
         echo -n "$head_hex"
-        seq "$1" | awk '{
+        seq $((most_opened + 1)) | awk '{
             key = sprintf("%02X%02X%02X0000000000", $1 % 256, int($1 / 256) % 256, int($1 / 65536))
             printf "0110000000%s%s", key, key
         }'
     } | basenc -d --base16 >"$scratch/longest"
 }
-
-readonly most_opened=3195659 most_with_room=3183170
 
 # The file has the log of so many pairs 1, 1 up to N, N.
 want_log_of() {
@@ -156,6 +135,7 @@ want_log_of() {
 # A pair is taken where the log uses 66,846,582 bytes, and none where it uses one batch more.
 check_log_full() {
     local folder="$scratch/log_full" next=$((most_with_room + 1)) refused='refused LOG FULL 66846603 67108864'
+    make_longest_log
     mkdir "$folder"
     log_of "$most_with_room" >"$folder/lane0.even"
     step "$folder" 0 "session 1
@@ -190,6 +170,7 @@ rows 1
 # The last batch of the longest log ends at 67,108,850. With one batch more it would end behind 67,108,864.
 check_longest_log() {
     local folder="$scratch/longest_log" more=$((most_opened + 1)) script
+    make_longest_log
     mkdir "$folder"
     log_of "$most_opened" >"$folder/lane0.even"
     script="session 1
