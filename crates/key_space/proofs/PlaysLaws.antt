@@ -1,12 +1,14 @@
 -- Row operations play to one list of tables, and tables stay tables.
-use Rattle.std.proofs.Common.{◌≡◌, ℕ, zero, suc, ◌<◌, Bool, true, false, not, cond, List, [], ◌∷◌, ◌++◌, length, map, refl, sym, ◌∙◌, subst, arith}
+use Rattle.std.proofs.Common.{◌≡◌, ℕ, zero, suc, ◌<◌, Bool, true, false, not, cond, List, [], ◌∷◌, ◌++◌, length, map, refl, sym, ◌∙◌, ap, subst, arith}
 use Rattle.std.specs.Prelude.{nat_lt, ◌==◌, slice_index_or}
 use Rattle.std.specs.List.{filter, AllByRecursion}
 use Rattle.std.proofs.lemmas.Bool.{ltb-true}
 use Rattle.row_types.specs.declared.row.Value.{Value}
+use Rattle.row_types.specs.declared.definition.TableDef.{TableDef}
 use Rattle.row_types.specs.Slot.{IsRowOf}
+use Rattle.row_types.specs.Schema.{IsSchema}
 use Rattle.row_types.specs.Keys.{row_key}
-use Rattle.row_types.specs.Tables.{TableRows, Tables, AreRising, IsTableRows, AreTables}
+use Rattle.row_types.specs.Tables.{TableRows, Tables, AreRising, IsTableRows, AreTables, schema_of}
 use Rattle.key_space.specs.Plays.{Rows, RowOp, Get, Part, Put, Del, UndoTo, with_row, without_key, changed, OfTable, AnswersAt, tables_after, PlaysOn, Plays}
 
 once : (before : List Tables) (tables a b : Tables) (ops : List RowOp) → PlaysOn before tables ops a → PlaysOn before tables ops b → a ≡ b
@@ -99,37 +101,57 @@ del_rows t key is = record {
 
 -- ---- tables
 
-put_tables : (tables : Tables) (n : ℕ) (row : List Value) → AreTables tables → OfTable tables n (λ t. IsRowOf t.def.columns row) → AreTables (changed tables n (λ t. with_row t.def.keys t.rows row))
+-- the rows of tables whose definitions are these
+record OfSchema (defs : List TableDef) (tables : Tables) : Type 0 where
+  same : schema_of tables ≡ defs
+  rows : AllByRecursion IsTableRows tables
+
+schema_of-changed : (tables : Tables) (n : ℕ) (rows_of : TableRows → Rows) → schema_of (changed tables n rows_of) ≡ schema_of tables
+schema_of-changed [] n rows_of = refl
+schema_of-changed (t ∷ tables) zero rows_of = refl
+schema_of-changed (t ∷ tables) (suc n) rows_of = ap (λ (defs : List TableDef). t.def ∷ defs) (schema_of-changed tables n rows_of)
+
+put_tables : (tables : Tables) (n : ℕ) (row : List Value) → AllByRecursion IsTableRows tables → OfTable tables n (λ t. IsRowOf t.def.columns row)
+    → AllByRecursion IsTableRows (changed tables n (λ t. with_row t.def.keys t.rows row))
 put_tables [] n row all of = tt
 put_tables (t ∷ tables) zero row all of = (put_rows t row all.0 of, all.1)
 put_tables (t ∷ tables) (suc n) row all of = (all.0, put_tables tables n row all.1 of)
 
-del_tables : (tables : Tables) (n key : ℕ) → AreTables tables → AreTables (changed tables n (λ t. without_key t.def.keys t.rows key))
+del_tables : (tables : Tables) (n key : ℕ) → AllByRecursion IsTableRows tables → AllByRecursion IsTableRows (changed tables n (λ t. without_key t.def.keys t.rows key))
 del_tables [] n key all = tt
 del_tables (t ∷ tables) zero key all = (del_rows t key all.0, all.1)
 del_tables (t ∷ tables) (suc n) key all = (all.0, del_tables tables n key all.1)
 
-moment_is : (moments : List Tables) (n : ℕ) (other : Tables) → AllByRecursion AreTables moments → AreTables other → AreTables (slice_index_or moments n other)
-moment_is [] n other all are = are
-moment_is (m ∷ moments) zero other all are = all.0
-moment_is (m ∷ moments) (suc n) other all are = moment_is moments n other all.1 are
+module _ (defs : List TableDef) where
+  moment_is : (moments : List Tables) (n : ℕ) (other : Tables) → AllByRecursion (OfSchema defs) moments → OfSchema defs other → OfSchema defs (slice_index_or moments n other)
+  moment_is [] n other all are = are
+  moment_is (m ∷ moments) zero other all are = all.0
+  moment_is (m ∷ moments) (suc n) other all are = moment_is moments n other all.1 are
 
-moments_push : (before : List Tables) (tables : Tables) → AllByRecursion AreTables before → AreTables tables → AllByRecursion AreTables (before ++ tables ∷ [])
-moments_push [] tables all are = (are, tt)
-moments_push (m ∷ before) tables all are = (all.0, moments_push before tables all.1 are)
+  moments_push : (before : List Tables) (tables : Tables) → AllByRecursion (OfSchema defs) before → OfSchema defs tables → AllByRecursion (OfSchema defs) (before ++ tables ∷ [])
+  moments_push [] tables all are = (are, tt)
+  moments_push (m ∷ before) tables all are = (all.0, moments_push before tables all.1 are)
 
-after_are : (moments : List Tables) (tables : Tables) (n : ℕ) (op : RowOp) → AllByRecursion AreTables moments → AreTables tables → AnswersAt tables n op → AreTables (tables_after moments tables op)
-after_are moments tables n (Get table key answer) all are says = are
-after_are moments tables n (Part table from upto answer) all are says = are
-after_are moments tables n (Put table row) all are says = put_tables tables table row are says
-after_are moments tables n (Del table key answer) all are says = del_tables tables table key are
-after_are moments tables n (UndoTo count) all are says = moment_is moments count tables all are
+  after_are : (moments : List Tables) (tables : Tables) (n : ℕ) (op : RowOp) → AllByRecursion (OfSchema defs) moments → OfSchema defs tables → AnswersAt tables n op → OfSchema defs (tables_after moments tables op)
+  after_are moments tables n (Get table key answer) all are says = are
+  after_are moments tables n (Part table from upto answer) all are says = are
+  after_are moments tables n (Put table row) all are says = record { same = schema_of-changed tables table _ ∙ are.same; rows = put_tables tables table row are.rows says }
+  after_are moments tables n (Del table key answer) all are says = record { same = schema_of-changed tables table _ ∙ are.same; rows = del_tables tables table key are.rows }
+  after_are moments tables n (UndoTo count) all are says = moment_is moments count tables all are
 
-stay : (before : List Tables) (tables end : Tables) (ops : List RowOp) → AllByRecursion AreTables before → AreTables tables → PlaysOn before tables ops end → AreTables end
-stay before tables end [] all are plays = subst AreTables plays are
-stay before tables end (op ∷ ops) all are plays =
-    let moments = moments_push before tables all are in
-    stay (before ++ tables ∷ []) (tables_after (before ++ tables ∷ []) tables op) end ops moments (after_are (before ++ tables ∷ []) tables (length before) op moments are plays.0) plays.1
+  stay : (before : List Tables) (tables end : Tables) (ops : List RowOp) → AllByRecursion (OfSchema defs) before → OfSchema defs tables → PlaysOn before tables ops end → OfSchema defs end
+  stay before tables end [] all are plays = subst (OfSchema defs) plays are
+  stay before tables end (op ∷ ops) all are plays =
+      let moments = moments_push before tables all are in
+      stay (before ++ tables ∷ []) (tables_after (before ++ tables ∷ []) tables op) end ops moments (after_are (before ++ tables ∷ []) tables (length before) op moments are plays.0) plays.1
+
+of_schema : (first end : Tables) (ops : List RowOp) → AreTables first → Plays first ops end → OfSchema (schema_of first) end
+of_schema first end ops are plays = stay (schema_of first) [] first end ops tt (record { same = refl; rows = are.rows }) plays
 
 pub tables_stay : (first end : Tables) (ops : List RowOp) → AreTables first → Plays first ops end → AreTables end
-tables_stay first end ops are plays = stay [] first end ops tt are plays
+tables_stay first end ops are plays =
+    let of = of_schema first end ops are plays in
+    record { schema = subst IsSchema (sym of.same) are.schema; rows = of.rows }
+
+pub schema_stays : (first end : Tables) (ops : List RowOp) → AreTables first → Plays first ops end → schema_of end ≡ schema_of first
+schema_stays first end ops are plays = (of_schema first end ops are plays).same

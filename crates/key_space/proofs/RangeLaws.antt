@@ -4,8 +4,8 @@ use Rattle.std.specs.Prelude.{◌↔◌, IsTrue}
 use Rattle.key_space.specs.declared.range.Range.{Range}
 use Rattle.key_space.specs.Ranges.{IsIn, shares}
 
-module _ (a b : Range) (a-full : a.lo ≤ a.hi) (b-full : b.lo ≤ b.hi) (r : Bool) (test : r ≡ shares a b) where
-  shared : r ≡ shares a b → IsTrue r → (a.lo ≤ b.hi) × (b.lo ≤ a.hi)
+module _ (a b : Range) (a-full : a.lo.number ≤ a.hi.number) (b-full : b.lo.number ≤ b.hi.number) (r : Bool) (test : r ≡ shares a b) where
+  shared : r ≡ shares a b → IsTrue r → (a.lo.number ≤ b.hi.number) × (b.lo.number ≤ a.hi.number)
   shared t is_true = (grind arith, grind arith)
 
   met : (k : ℕ) → IsIn a k → IsIn b k → IsTrue r
@@ -13,4 +13,4 @@ module _ (a b : Range) (a-full : a.lo ≤ a.hi) (b-full : b.lo ≤ b.hi) (r : Bo
 
   pub shares_means : IsTrue r ↔ ((k : ℕ) × IsIn a k × IsIn b k)
   shares_means =
-      ((λ is_true. let ends = shared test is_true in (max a.lo b.lo, record { above = omega arith; below = omega arith }, record { above = omega arith; below = omega arith })), (λ found. met found.0 found.1 found.2))
+      ((λ is_true. let ends = shared test is_true in (max a.lo.number b.lo.number, record { above = omega arith; below = omega arith }, record { above = omega arith; below = omega arith })), (λ found. met found.0 found.1 found.2))

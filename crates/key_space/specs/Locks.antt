@@ -6,11 +6,11 @@ use Rattle.key_space.specs.declared.lock.Mode.{Mode}
 use Rattle.key_space.specs.declared.lock.Mode.TheVariants.{Shared, Exclusive}
 use Rattle.key_space.specs.declared.lock.Verdict.{Verdict}
 use Rattle.key_space.specs.declared.lock.Verdict.TheVariants.{Granted, Wait, Die, Full}
-use Rattle.key_space.specs.Ranges.{shares, covers}
+use Rattle.key_space.specs.Ranges.{IsNotEmpty, shares, covers}
 
 -- its range isn't empty
 abbrev pub IsOfKeys : Held → Type 0
-IsOfKeys h = h.name.range.lo ≤ h.name.range.hi
+IsOfKeys h = IsNotEmpty h.name.range
 
 -- the mode is Exclusive
 abbrev pub is_exclusive : Mode → Bool

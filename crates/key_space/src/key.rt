@@ -6,45 +6,20 @@ ghost use Rattle.row_types.specs.Schema.{columns_at, keys_at};
 ghost use Rattle.row_types.specs.Slot.{IsRowOf};
 
 use row_types::{Row, Schema};
-use std::marker::Model;
 
-/// A key: a number below 2^128, seen as this number.
-#[derive(Clone, Copy, Debug, PartialEq, Eq, PartialOrd, Ord)]
+/// A key: a number below 2^128. Keys are in the order of their numbers.
+#[derive(Clone, Copy, Debug, Default, PartialEq, Eq, PartialOrd, Ord)]
 pub struct Key {
-    number: u128,
-}
-
-impl Model for Key {
-    ghost use Rattle.std.specs.Prelude.{ℕ};
-
-    ghost Value = { ℕ };
-
-    ghost view = { λ k. k.number };
-
-    ghost inverse = { λ n. record { number = n } };
+    pub number: u128,
 }
 
 /// What is added to a whole number, so that the least of 64 bits is key 0.
 const OFFSET: i128 = 1 << 63;
 
 impl Key {
-    /// The key that is this number.
-    pub fn new(number: u128) -> Key
-        ensures { result ≡ number }
-    {
-        Key { number }
-    }
-
-    /// The number that the key is.
-    pub fn number(self) -> u128
-        ensures { result ≡ self }
-    {
-        self.number
-    }
-
     /// The key of a whole number: the number plus 2^63.
     pub fn of_int(v: i64) -> Key
-        ensures { result ≡ key_of_int v }
+        ensures { result.number ≡ key_of_int v }
     {
         Key {
             number: (i128::from(v) + OFFSET) as u128,
@@ -53,22 +28,22 @@ impl Key {
 
     /// The whole number whose key it is. `None`: the key is 2^64 or more.
     pub fn to_int(self) -> Option<i64>
-        ensures cases { MatchOption result (2 ^ 64 ≤ self) (λ v. key_of_int v ≡ self) }
-        ensures back { (v : ℤ) → FitsSigned w64 v → self ≡ key_of_int v → result ≡ Some v }
+        ensures cases { MatchOption result (2 ^ 64 ≤ self.number) (λ v. key_of_int v ≡ self.number) }
+        ensures back { (v : ℤ) → FitsSigned w64 v → self.number ≡ key_of_int v → result ≡ Some v }
     {
         let number = u64::try_from(self.number).ok()?;
         Some((i128::from(number) - OFFSET) as i64)
     }
 }
 
-/// The key of a row of a table.
+/// The key of a row of a table: that of the whole number in the column that is marked as the key.
 pub fn key_of(schema: &Schema, table: u16, row: &Row) -> Key
     requires table { table < length schema.now }
     requires row { IsRowOf (columns_at schema.now table) row.now }
-    ensures { result ≡ row_key (keys_at schema.now table) row.now }
+    ensures { result.number ≡ row_key (keys_at schema.now table) row.now }
 {
     match schema.table(table).keys.as_slice() {
-        [] => Key::new(0),
+        [] => Key::default(),
         [mark, ..] => Key::of_int(row.int_at(*mark as usize)),
     }
 }

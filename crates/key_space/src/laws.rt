@@ -2,7 +2,7 @@
 ghost use Rattle.std.specs.Prelude.{◌≡◌, ◌⊎◌, ◌↔◌, ◌<◌, ℤ, ◌<ℤ◌, ℕ, List, Some, None, ◌==◌, if◌then◌else◌, FitsSigned};
 ghost use Rattle.std.specs.Int.{w64};
 ghost use Rattle.row_types.specs.Keys.{key_of_int, row_key};
-ghost use Rattle.row_types.specs.Tables.{Tables, AreTables};
+ghost use Rattle.row_types.specs.Tables.{Tables, AreTables, schema_of};
 ghost use Rattle.key_space.specs.Plays.{Rows, RowOp, Plays, row_at, with_row, without_key};
 ghost use Rattle.row_types.specs.declared.row.Value.{Value};
 ghost use Rattle.key_space.specs.Locks.{verdict_of, conflicts, conflicts_older, IsLeastOwner};
@@ -25,9 +25,12 @@ pub fn plays_once()
     ensures { (first a b : Tables) (ops : List RowOp) → Plays first ops a → Plays first ops b → a ≡ b }
 {}
 
-/// Where operations play from tables, what they lead to are tables: the rows fit, and their keys rise.
+/// Where operations play from tables, what they lead to are tables of the same definitions: the rows fit, and their
+/// keys rise.
 pub fn tables_stay_tables()
-    ensures { (first end : Tables) (ops : List RowOp) → AreTables first → Plays first ops end → AreTables end }
+    ensures tables { (first end : Tables) (ops : List RowOp) → AreTables first → Plays first ops end → AreTables end }
+    ensures schema { (first end : Tables) (ops : List RowOp) → AreTables first → Plays first ops end
+        → schema_of end ≡ schema_of first }
 {}
 
 /// A row that was set is looked up by its key, a key that was taken away isn't found, and other keys answer as before.

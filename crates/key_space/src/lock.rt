@@ -7,7 +7,7 @@ ghost use Rattle.key_space.specs.Locks.{IsOfKeys, covers_ask, conflicts, conflic
 use crate::Range;
 
 /// What a lock holds: a range of keys of a table.
-#[derive(Clone, Copy, Debug, PartialEq, Eq)]
+#[derive(Clone, Copy, Debug, Default, PartialEq, Eq)]
 pub struct LockName {
     pub table: u16,
     pub range: Range,

@@ -5,19 +5,19 @@ ghost use Rattle.key_space.specs.Ranges.{IsIn, shares, covers};
 use crate::Key;
 
 /// The keys from `lo` to `hi`, both among them. It is empty where `lo` is above `hi`.
-#[derive(Clone, Copy, Debug, PartialEq, Eq)]
+#[derive(Clone, Copy, Debug, Default, PartialEq, Eq)]
 pub struct Range {
     pub lo: Key,
     pub hi: Key,
 }
 
 impl Range {
-    ghost use Rattle.key_space.specs.Ranges.{IsIn, shares, covers};
+    ghost use Rattle.key_space.specs.Ranges.{IsIn, IsNotEmpty, shares, covers};
 
     /// Whether a key lies in both.
     pub fn overlaps(&self, o: &Range) -> bool
-        requires mine { self.now.lo ≤ self.now.hi }
-        requires other { o.now.lo ≤ o.now.hi }
+        requires mine { IsNotEmpty self.now }
+        requires other { IsNotEmpty o.now }
         ensures meaning { IsTrue result ↔ ((k : ℕ) × IsIn self.now k × IsIn o.now k) }
         ensures test { result ≡ shares self.now o.now }
     {
@@ -26,8 +26,8 @@ impl Range {
 
     /// Whether each key of the other lies in it.
     pub fn contains(&self, o: &Range) -> bool
-        requires mine { self.now.lo ≤ self.now.hi }
-        requires other { o.now.lo ≤ o.now.hi }
+        requires mine { IsNotEmpty self.now }
+        requires other { IsNotEmpty o.now }
         ensures meaning { IsTrue result ↔ ((k : ℕ) → IsIn o.now k → IsIn self.now k) }
         ensures test { result ≡ covers self.now o.now }
     {

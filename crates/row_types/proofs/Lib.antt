@@ -8,3 +8,4 @@ pub mod NameReading
 pub mod Putting
 pub mod ReadingSchemas
 pub mod SchemaTextLaws
+pub mod TablesLaws

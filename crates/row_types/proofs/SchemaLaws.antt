@@ -1,15 +1,15 @@
 -- What holds of the tables of a schema, and of a schema with one table more.
-use Rattle.std.proofs.Common.{◌+◌, arith, ◌≤◌, ◌≡◌, ℕ, zero, suc, Bool, true, false, not, cond, List, [], ◌∷◌, ◌++◌, length, Option, None, Some, refl, sym, ◌∙◌, ap, subst, append_assoc}
-use Rattle.std.specs.Prelude.{slice_get, nat_le, is_none}
+use Rattle.std.proofs.Common.{◌+◌, arith, ◌≤◌, ◌≡◌, ℕ, zero, suc, Bool, true, false, List, [], ◌∷◌, ◌++◌, length, Option, None, Some, refl, sym, ◌∙◌, ap, subst, append_assoc}
+use Rattle.std.specs.Prelude.{slice_get, nat_le}
 use Rattle.std.specs.Option.{option_or}
 use Rattle.std.specs.List.{AllByRecursion}
-use Rattle.std.proofs.lemmas.Bool.{ltb-false, leb-false}
+use Rattle.std.proofs.lemmas.Bool.{ltb-false, leb-false, not-false}
 use Rattle.std.proofs.lemmas.List.{append-nil, length-append}
 use Rattle.row_types.specs.declared.definition.TableDef.{TableDef}
 use Rattle.row_types.specs.declared.fault.SchemaFault.{SchemaFault}
 use Rattle.row_types.specs.declared.fault.SchemaFault.TheVariants.{TableExists, Tables}
 use Rattle.row_types.specs.Slot.{slot_len}
-use Rattle.row_types.specs.Schema.{has_table, refused_if, refusal, with_table, created, AreAccepted, IsNamed, IsSchema, IsTable}
+use Rattle.row_types.specs.Schema.{has_table, refused_if, refusal, AreAccepted, IsNamed, IsSchema, IsTable}
 
 neither : {A : Type 0} (o p : Option A) → option_or o p ≡ None → (o ≡ None) × (p ≡ None)
 neither None p e = (refl, e)
@@ -18,10 +18,6 @@ neither (Some x) p e = absurd cc
 not_refused : (test : Bool) (fault : SchemaFault) → refused_if test fault ≡ None → test ≡ false
 not_refused true fault e = absurd cc
 not_refused false fault e = refl
-
-not_false : (b : Bool) → not b ≡ false → b ≡ true
-not_false true e = refl
-not_false false e = absurd cc
 
 -- a definition that isn't refused keeps the rules
 pub table_of_accepted : (tables : List TableDef) (def : TableDef) → refusal tables def ≡ None → IsTable def
@@ -34,7 +30,7 @@ table_of_accepted tables def none =
     record {
       few = ltb-false 32 (length def.columns) (not_refused _ _ c.0);
       narrow = ltb-false 4096 (slot_len def.columns) (not_refused _ _ e.1);
-      key = not_false _ (not_refused _ _ e.0);
+      key = not-false _ (not_refused _ _ e.0);
     }
 
 accepted_at : (before tables : List TableDef) (n : ℕ) (def : TableDef) → AreAccepted before tables → slice_get tables n ≡ Some def → (others : List TableDef) × (refusal others def ≡ None)
@@ -71,15 +67,3 @@ count_of before (d ∷ tables) all le =
 -- a schema has at most 16 tables
 pub table_count : (tables : List TableDef) → IsSchema tables → length tables ≤ 16
 table_count tables schema = omega (arith, count_of [] tables schema.accepted (omega arith))
-
--- asked tables lead from a schema to a schema
-pub created_is : (tables defs : List TableDef) → IsSchema tables → AllByRecursion IsNamed defs → IsSchema (created tables defs).1
-created_is tables [] schema named = schema
-created_is tables (def ∷ defs) schema named = created_is (with_table tables def) defs (one_more (refusal tables def) refl) named.1 where
-  one_more : (o : Option SchemaFault) → refusal tables def ≡ o → IsSchema (cond (is_none o) (tables ++ def ∷ []) tables)
-  one_more None none = schema_push tables def schema named.0 none
-  one_more (Some fault) some = schema
-
-pub answers-length : (tables defs : List TableDef) → length (created tables defs).0 ≡ length defs
-answers-length tables [] = refl
-answers-length tables (def ∷ defs) = ap suc (answers-length (with_table tables def) defs)

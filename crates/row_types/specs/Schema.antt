@@ -1,7 +1,7 @@
--- Schemas: which definitions of tables are accepted, and what a list of asked tables leads to.
-use Rattle.std.specs.Prelude.{◌≡◌, ℕ, ◌+◌, ◌≤◌, Bool, true, false, not, if◌then◌else◌, nat_lt, nat_le, is_none, List, [], ◌∷◌, ◌++◌, length, slice_get, Option, None, Some, Result, Ok, Err}
+-- Schemas: which definitions of tables are accepted, and the tables and columns that a name is.
+use Rattle.std.specs.Prelude.{◌≡◌, ℕ, ◌+◌, ◌≤◌, Bool, true, false, not, if◌then◌else◌, nat_lt, nat_le, List, [], ◌∷◌, ◌++◌, length, slice_get, Option, None, Some, Result, Ok, Err}
 use Rattle.std.specs.Option.{option_or, option_map}
-use Rattle.std.specs.List.{list_any, AllByRecursion}
+use Rattle.std.specs.List.{list_any, position_from, AllByRecursion}
 use Rattle.std.specs.Str.{bytes_eq}
 use Rattle.row_types.specs.declared.definition.Kind.{Kind}
 use Rattle.row_types.specs.declared.definition.Kind.TheVariants as kind
@@ -11,6 +11,14 @@ use Rattle.row_types.specs.declared.fault.SchemaFault.{SchemaFault}
 use Rattle.row_types.specs.declared.fault.SchemaFault.TheVariants.{TableExists, Tables, Columns, SameName, NoKey, TooWide}
 use Rattle.row_types.specs.Text.{IsName}
 use Rattle.row_types.specs.Slot.{slot_len}
+
+-- the number of the table with this name: of the first, where there were two
+abbrev pub table_named : List TableDef → List ℕ → Option ℕ
+table_named tables name = position_from (λ t. bytes_eq t.name name) 0 tables
+
+-- the number of the column with this name: of the first, where there were two
+abbrev pub column_named : List Column → List ℕ → Option ℕ
+column_named columns name = position_from (λ c. bytes_eq c.name name) 0 columns
 
 -- a table has this name
 abbrev pub has_table : List TableDef → List ℕ → Bool
@@ -63,15 +71,6 @@ ok_unless (Some fault) = Err fault
 -- the answer to a table that is asked for
 abbrev pub verdict : List TableDef → TableDef → Result (Unit {0}) SchemaFault
 verdict tables def = ok_unless (refusal tables def)
-
--- the tables after a table was asked for
-abbrev pub with_table : List TableDef → TableDef → List TableDef
-with_table tables def = if is_none (refusal tables def) then tables ++ def ∷ [] else tables
-
--- the answers to tables that are asked for one after the other, and the tables after them
-abbrev pub created : List TableDef → List TableDef → List (Result (Unit {0}) SchemaFault) × List TableDef
-created tables [] = ([], tables)
-created tables (def ∷ defs) = (verdict tables def ∷ (created (with_table tables def) defs).0, (created (with_table tables def) defs).1)
 
 -- the definitions are accepted one after the other, where these tables are there before
 abbrev pub AreAccepted : List TableDef → List TableDef → Type 0

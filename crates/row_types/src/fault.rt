@@ -11,7 +11,7 @@ use thiserror::Error;
 pub enum SlotFault {
     /// The first byte, in the order of the slot, of what breaks its form.
     #[error("byte {at} is wrong")]
-    BadSlot { at: usize },
+    BadSlot { at: u64 },
     #[error("out of memory")]
     OutOfMemory,
 }
@@ -32,19 +32,19 @@ pub enum SchemaFault {
     TableExists,
     /// There are as many tables as there may be.
     #[error("there are {limit} tables")]
-    Tables { limit: usize },
+    Tables { limit: u64 },
     /// It has more than 32 columns.
     #[error("{count} columns")]
-    Columns { count: usize },
+    Columns { count: u64 },
     /// Two columns have one name: the number of the second, from 0.
     #[error("column {place} has the name of an earlier one")]
-    SameName { place: usize },
+    SameName { place: u64 },
     /// Not one column is marked as the key, or one that doesn't hold whole numbers.
     #[error("no key")]
     NoKey,
     /// A slot has more bytes than a page.
     #[error("a slot of {bytes} bytes")]
-    TooWide { bytes: usize },
+    TooWide { bytes: u64 },
     #[error("out of memory")]
     OutOfMemory,
 }

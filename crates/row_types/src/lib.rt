@@ -4,6 +4,7 @@
 mod block;
 mod definition;
 mod fault;
+mod items;
 mod row;
 mod schema;
 mod schema_slots;
@@ -11,12 +12,13 @@ mod schema_text;
 mod slot;
 mod text;
 
-pub use block::{Block, Piece2, Pieces};
+pub use block::{Block, PlacedText};
 pub use causes::OutOfMemory;
-pub use definition::{Column, Columns, Kind, Marks, TableDef};
+pub use definition::{Column, Kind, TableDef};
 pub use fault::{SchemaFault, SlotFault};
-pub use row::{Numbers, Row, Value};
-pub use schema::{Schema, schemas_stay_schemas};
+pub use items::{Items, TryCopy};
+pub use row::{Row, Value};
+pub use schema::{Schema, created_are_tables};
 pub use schema_slots::one_slot;
 pub use schema_text::schema_texts_are_short;
 pub use text::{Name, Text};

@@ -8,20 +8,10 @@ ghost use Rattle.row_types.specs.declared.definition.Column.{Column};
 
 use crate::schema::PAGE;
 use crate::slot::{is_row_of, read_slot, slot_fault, slot_len, write_slot};
-use crate::{Column, Numbers, OutOfMemory, Row, Schema, SlotFault};
+use crate::{Items, OutOfMemory, Row, Schema, SlotFault};
 use std::alloc::Global;
 
 impl Schema {
-    /// The columns of a table.
-    fn columns(&self, table: u16) -> &[Column]
-        requires { table < length self.now }
-        ensures value { result.now ≡ columns_at self.now table }
-        ensures few { length result.now ≤ 32 }
-        ensures narrow { slot_len result.now ≤ 4096 }
-    {
-        self.table(table).columns.as_slice()
-    }
-
     /// The bytes of a slot of the table: 16 to 4,096.
     pub fn slot_len(&self, table: u16) -> usize
         requires { table < length self.now }
@@ -45,7 +35,7 @@ impl Schema {
         requires { table < length self.now }
         ensures { IsTrue result ↔ IsRowOf (columns_at self.now table) row.now }
     {
-        is_row_of(self.columns(table), row.values())
+        is_row_of(self.columns(table), row.as_slice())
     }
 
     /// Writes the slot of a row.
@@ -55,16 +45,17 @@ impl Schema {
         requires whole { length into.old ≡ slot_len (columns_at self.now table) }
         ensures { into.new ≡ slot_text (columns_at self.now table) row.now }
     {
-        write_slot(self.columns(table), row.values(), into);
+        write_slot(self.columns(table), row.as_slice(), into);
     }
 
     /// The place of the first fault of a slot, in the order of its bytes. `None`: it is the slot of a row, or empty.
-    pub fn slot_fault(&self, table: u16, slot: &[u8]) -> Option<usize>
+    pub fn slot_fault(&self, table: u16, slot: &[u8]) -> Option<u64>
         requires table { table < length self.now }
         requires whole { length slot.now ≡ slot_len (columns_at self.now table) }
         ensures { result ≡ slot_fault (columns_at self.now table) slot.now }
     {
-        slot_fault(self.columns(table), slot)
+        let at = slot_fault(self.columns(table), slot)?;
+        Some(at as u64)
     }
 
     /// The row of a slot, `None` where it is empty. `BadSlot` names the first fault in the order of its bytes.
@@ -86,7 +77,12 @@ impl Schema {
     }
 
     /// The values of the row's key columns, in the order of their marks.
-    pub fn key_values(&self, alloc: Global, table: u16, row: &Row) -> Result<Numbers, OutOfMemory>
+    pub fn key_values(
+        &self,
+        alloc: Global,
+        table: u16,
+        row: &Row,
+    ) -> Result<Items<i64>, OutOfMemory>
         requires table { table < length self.now }
         requires row { IsRowOf (columns_at self.now table) row.now }
         ensures { IfOk result (λ numbers. numbers ≡ map (int_at row.now) (keys_at self.now table)) }
@@ -96,7 +92,7 @@ impl Schema {
         for mark in marks {
             numbers.push(row.int_at(*mark as usize))?;
         }
-        Ok(Numbers::new(numbers))
+        Ok(Items::from_vec(numbers))
     }
 }
 

@@ -7,7 +7,7 @@ ghost use Rattle.row_types.specs.SchemaReading.{Gives, byte_at, is_name, name_at
 ghost use Rattle.row_types.specs.declared.definition.TableDef.{TableDef};
 ghost use Rattle.row_types.specs.declared.schema_text.ReadError.TheVariants.{Memory, Invalid};
 
-use crate::{Column, Columns, Kind, Marks, Name, OutOfMemory, Schema, SchemaFault, TableDef};
+use crate::{Column, Items, Kind, Name, OutOfMemory, Schema, SchemaFault, TableDef};
 use std::alloc::{AllocError, AllocFailed, Global};
 
 /// The one format that is known.
@@ -151,17 +151,17 @@ fn column_at(alloc: Global, bytes: &[u8]) -> Result<(Column, &[u8]), ReadError>
     Ok((Column { name, kind }, rest))
 }
 
-fn columns_from(alloc: Global, count: u8, bytes: &[u8]) -> Result<(Columns, &[u8]), ReadError>
+fn columns_from(alloc: Global, count: u8, bytes: &[u8]) -> Result<(Items<Column>, &[u8]), ReadError>
     ensures { Gives (λ x. (x.0, x.1.now)) result (columns_from count bytes.now) }
 {
-    let mut columns = Vec::with_capacity(alloc, count as usize)?;
+    let mut columns = Items::new(alloc);
     let mut rest = bytes;
     for _ in 0..count {
         let (column, after) = column_at(alloc, rest)?;
         columns.push(column)?;
         rest = after;
     }
-    Ok((Columns::new(columns), rest))
+    Ok((columns, rest))
 }
 
 #[tactic(auto, unfolding(crate::specs::SchemaReading::table_at))]
@@ -171,7 +171,7 @@ fn table_at(alloc: Global, bytes: &[u8]) -> Result<(TableDef, &[u8]), ReadError>
     let (name, rest) = name_at(alloc, bytes)?;
     let (count, rest) = byte_at(rest)?;
     let (key, rest) = byte_at(rest)?;
-    let keys = Marks::new(Vec::from_slice(alloc, &[key])?);
+    let keys = Items::from_vec(Vec::from_slice(alloc, &[key])?);
     let (columns, rest) = columns_from(alloc, count, rest)?;
     let table = TableDef {
         name,
@@ -182,10 +182,10 @@ fn table_at(alloc: Global, bytes: &[u8]) -> Result<(TableDef, &[u8]), ReadError>
 }
 
 /// Adds the next table, where it is one that a schema takes.
-fn add_next(schema: &mut Schema, table: &TableDef) -> Result<(), ReadError>
+fn add_next(schema: &mut Schema, table: TableDef) -> Result<(), ReadError>
     ensures cases { MatchResult result
-        (λ _. (refusal schema.old table.now ≡ None) × (schema.new ≡ schema.old ++ table.now ∷ []))
-        (λ e. e ≡ Invalid → IsSome (refusal schema.old table.now)) }
+        (λ _. (refusal schema.old table ≡ None) × (schema.new ≡ schema.old ++ table ∷ []))
+        (λ e. e ≡ Invalid → IsSome (refusal schema.old table)) }
 {
     match schema.add(table) {
         Ok(()) => Ok(()),
@@ -202,7 +202,7 @@ fn schema_of(alloc: Global, bytes: &[u8]) -> Result<Schema, ReadError>
     let mut schema = Schema::empty(alloc);
     for _ in 0..count {
         let (table, after) = table_at(alloc, rest)?;
-        add_next(&mut schema, &table)?;
+        add_next(&mut schema, table)?;
         rest = after;
     }
     if !rest.is_empty() {

@@ -170,7 +170,7 @@ fn cells_values(alloc: Global, columns: &[Column], bytes: &[u8]) -> Result<Row, 
         values.push(cell_value(alloc, column.kind, &bytes[at..end])?)?;
         at = end;
     }
-    Ok(Row::new(values))
+    Ok(Row::from_vec(values))
 }
 
 /// What a slot holds: a row, or none where it is empty.
@@ -184,7 +184,7 @@ pub(crate) fn read_slot(
     ensures { IsUnlessMemory result (read_slot columns.now slot.now) }
 {
     if let Some(at) = slot_fault(columns, slot) {
-        return Err(SlotFault::BadSlot { at });
+        return Err(SlotFault::BadSlot { at: at as u64 });
     }
     match slot {
         [1, rest @ ..] => {

@@ -4,7 +4,7 @@ ghost use Rattle.std.specs.Option.{SomeIff};
 ghost use Rattle.std.specs.String.{string_bytes};
 ghost use Rattle.row_types.specs.Text.{IsName, IsNameLen};
 
-use crate::OutOfMemory;
+use crate::{OutOfMemory, TryCopy};
 use std::alloc::Global;
 use std::marker::Model;
 
@@ -46,11 +46,10 @@ impl Name {
     {
         self.text.as_str()
     }
+}
 
-    /// The same name.
-    pub fn copy(&self) -> Result<Name, OutOfMemory>
-        ensures { IfOk result (λ name. name ≡ self.now) }
-    {
+impl TryCopy for Name {
+    fn copy(&self) -> Result<Name, OutOfMemory> {
         let alloc = *self.text.allocator();
         Ok(Name {
             text: String::from_str(alloc, self.text.as_str())?,
@@ -119,11 +118,10 @@ impl Text {
     {
         self.text.as_str()
     }
+}
 
-    /// The same text.
-    pub fn copy(&self) -> Result<Text, OutOfMemory>
-        ensures { IfOk result (λ text. text ≡ self.now) }
-    {
+impl TryCopy for Text {
+    fn copy(&self) -> Result<Text, OutOfMemory> {
         let alloc = *self.text.allocator();
         Ok(Text {
             text: String::from_str(alloc, self.text.as_str())?,

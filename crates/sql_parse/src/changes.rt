@@ -7,8 +7,8 @@ ghost use Rattle.sql_parse.specs.Reading.{next_of, rest_of, insert_at, term_at, 
 use crate::fault::ParseFault;
 use crate::parser::Parser;
 use crate::statement::{Change, Delete, Insert, Statement, Step, Term, Update};
+use row_types::Items;
 use sql_lex::{Keyword, Sign, TokenKind};
-use sqlite_items::Items;
 use std::alloc::Global;
 
 impl<'a> Parser<'a> {

@@ -8,8 +8,8 @@ ghost use Rattle.sql_parse.specs.Reading.{one_at, separated_at, condition_at, wh
 use crate::fault::ParseFault;
 use crate::parser::Parser;
 use crate::statement::{Comparison, Condition};
+use row_types::Items;
 use sql_lex::{Keyword, Sign, TokenKind};
-use sqlite_items::Items;
 use std::alloc::Global;
 
 impl<'a> Parser<'a> {

@@ -4,12 +4,13 @@ ghost use Rattle.sql_parse.specs.Giving.{Gives};
 ghost use Rattle.sql_parse.specs.Grammar.{text_kind, text_word, int_word, columns_of, marks_of};
 ghost use Rattle.sql_parse.specs.Reading.{one_at, type_at, marked_at, column_at, listed_at, create_at};
 
+use crate::OutOfMemory;
 use crate::fault::ParseFault;
 use crate::parser::Parser;
 use crate::statement::Statement;
-use row_types::{Column, Columns, Kind, Marks, TableDef};
+use row_types::{Column, Items, Kind, TableDef};
 use sql_lex::{Keyword, Sign, TokenKind};
-use std::alloc::{AllocError, Global};
+use std::alloc::Global;
 
 impl<'a> Parser<'a> {
     fn text_len(&mut self) -> Result<Kind, ParseFault>
@@ -69,10 +70,10 @@ impl<'a> Parser<'a> {
     }
 
     // column { , column }
-    fn columns(&mut self, alloc: Global) -> Result<Vec<(Column, bool)>, ParseFault>
-        ensures { Gives (λ columns. (columns.items, self.new)) result (listed_at column_at self.old) }
+    fn columns(&mut self, alloc: Global) -> Result<Items<(Column, bool)>, ParseFault>
+        ensures { Gives (λ columns. (columns, self.new)) result (listed_at column_at self.old) }
     {
-        let mut columns = Vec::new(alloc);
+        let mut columns = Items::new(alloc);
         columns.push(self.column(alloc)?)?;
         'commas: while self.accepts_sign(Sign::Comma) {
             columns.push(self.column(alloc)?)?;
@@ -91,8 +92,8 @@ impl<'a> Parser<'a> {
         self.sign(Sign::Open)?;
         let columns = self.columns(alloc)?;
         self.sign(Sign::Close)?;
-        let keys = Marks::new(marks_of(alloc, &columns)?);
-        let columns = Columns::new(columns_of(alloc, columns)?);
+        let keys = marks_of(alloc, columns.as_slice())?;
+        let columns = columns_of(alloc, columns)?;
         Ok(Statement::Create(TableDef {
             name,
             columns,
@@ -102,10 +103,10 @@ impl<'a> Parser<'a> {
 }
 
 // The numbers of the columns that are marked, 255 from there on.
-fn marks_of(alloc: Global, columns: &[(Column, bool)]) -> Result<Vec<u8>, AllocError>
-    ensures { IfOk result (λ marks. marks.items ≡ marks_of 0 columns.now) }
+fn marks_of(alloc: Global, columns: &[(Column, bool)]) -> Result<Items<u8>, OutOfMemory>
+    ensures { IfOk result (λ marks. marks ≡ marks_of 0 columns.now) }
 {
-    let mut marks = Vec::new(alloc);
+    let mut marks = Items::new(alloc);
     for (i, column) in columns.iter().enumerate() {
         if column.1 {
             marks.push(i.min(255) as u8)?;
@@ -114,8 +115,9 @@ fn marks_of(alloc: Global, columns: &[(Column, bool)]) -> Result<Vec<u8>, AllocE
     Ok(marks)
 }
 
-fn columns_of(alloc: Global, columns: Vec<(Column, bool)>) -> Result<Vec<Column>, AllocError>
-    ensures { IfOk result (λ plain. plain.items ≡ columns_of columns.items) }
+fn columns_of(alloc: Global, columns: Items<(Column, bool)>) -> Result<Items<Column>, OutOfMemory>
+    ensures { IfOk result (λ plain. plain ≡ columns_of columns) }
 {
-    columns.into_iter().map(|column| column.0).collect(alloc)
+    let columns = columns.into_vec().into_iter();
+    Ok(Items::from_vec(columns.map(|column| column.0).collect(alloc)?))
 }

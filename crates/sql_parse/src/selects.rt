@@ -7,9 +7,8 @@ ghost use Rattle.sql_parse.specs.Reading.{one_at, name_at, listed_at, shown_at, 
 use crate::fault::ParseFault;
 use crate::parser::Parser;
 use crate::statement::{Order, Select, Shown, Statement, Total, Totals};
-use row_types::Name;
+use row_types::{Items, Name};
 use sql_lex::{Keyword, Sign, TokenKind};
-use sqlite_items::Items;
 use std::alloc::Global;
 
 impl<'a> Parser<'a> {

@@ -1,6 +1,5 @@
 // The statements of the language: one variant for each alternative of the grammar, with its parts in order.
-use row_types::{Name, Row, TableDef, Value};
-use sqlite_items::Items;
+use row_types::{Items, Name, Row, TableDef, Value};
 
 /// A statement.
 #[derive(Debug, Drop)]

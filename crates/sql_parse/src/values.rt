@@ -6,9 +6,8 @@ ghost use Rattle.sql_parse.specs.Reading.{value_at, negative_at, listed_at, row_
 use crate::fault::ParseFault;
 use crate::literal::text_of;
 use crate::parser::Parser;
-use row_types::{Row, Value};
+use row_types::{Items, Row, Value};
 use sql_lex::{Sign, TokenKind};
-use sqlite_items::Items;
 use std::alloc::Global;
 
 const LOWEST: u64 = 1 << 63;
@@ -52,10 +51,10 @@ impl<'a> Parser<'a> {
     }
 
     // value { , value }
-    fn values(&mut self, alloc: Global) -> Result<Vec<Value>, ParseFault>
-        ensures { Gives (λ values. (values.items, self.new)) result (listed_at value_at self.old) }
+    fn values(&mut self, alloc: Global) -> Result<Row, ParseFault>
+        ensures { Gives (λ values. (values, self.new)) result (listed_at value_at self.old) }
     {
-        let mut values = Vec::new(alloc);
+        let mut values = Row::new(alloc);
         values.push(self.value(alloc)?)?;
         'commas: while self.accepts_sign(Sign::Comma) {
             values.push(self.value(alloc)?)?;
@@ -71,7 +70,7 @@ impl<'a> Parser<'a> {
         self.sign(Sign::Open)?;
         let values = self.values(alloc)?;
         self.sign(Sign::Close)?;
-        Ok(Row::new(values))
+        Ok(values)
     }
 
     // row { , row }

@@ -14,21 +14,21 @@ fn keys_of_whole_numbers_at_both_ends(rt: HostRuntime) {
         (0, 1 << 63),
         (i64::MAX, (1 << 64) - 1),
     ] {
-        assert_eq!(rt; Key::of_int(number).number(), key);
-        assert_eq!(rt; Key::new(key).to_int(), Some(number));
+        assert_eq!(rt; Key::of_int(number).number, key);
+        assert_eq!(rt; Key { number: key }.to_int(), Some(number));
     }
     for key in [1 << 64, u128::MAX] {
-        assert_eq!(rt; Key::new(key).to_int(), None);
+        assert_eq!(rt; Key { number: key }.to_int(), None);
     }
 }
 
 fn range(lo: u128, hi: u128) -> Range
-    ensures lo { result.lo ≡ lo }
-    ensures hi { result.hi ≡ hi }
+    ensures lo { result.lo.number ≡ lo }
+    ensures hi { result.hi.number ≡ hi }
 {
     Range {
-        lo: Key::new(lo),
-        hi: Key::new(hi),
+        lo: Key { number: lo },
+        hi: Key { number: hi },
     }
 }
 
@@ -52,8 +52,8 @@ fn ranges_share_keys_at_their_ends(rt: HostRuntime) {
 }
 
 fn held(who: u16, age: u64, lo: u128, hi: u128, mode: Mode) -> Held
-    ensures lo { result.name.range.lo ≡ lo }
-    ensures hi { result.name.range.hi ≡ hi }
+    ensures lo { result.name.range.lo.number ≡ lo }
+    ensures hi { result.name.range.hi.number ≡ hi }
 {
     let name = LockName {
         table: 0,
@@ -94,11 +94,11 @@ fn answers_to_requests(rt: HostRuntime) {
 fn the_key_of_a_row_is_that_of_its_marked_column(rt: HostRuntime) -> Result<(), Fail> {
     let alloc = rt.alloc();
     let mut schema = Schema::empty(alloc);
-    schema.add(&table(alloc, "CREATE TABLE kv (n INT, id INT PRIMARY KEY)")?)?;
+    schema.add(table(alloc, "CREATE TABLE kv (n INT, id INT PRIMARY KEY)")?)?;
     let mut values = Vec::new(alloc);
     values.push(Value::Int(7))?;
     values.push(Value::Int(-7))?;
-    let row = Row::new(values);
+    let row = Row::from_vec(values);
     assert_eq!(rt; schema.tables().len(), 1);
     assert!(rt; schema.fits(0, &row));
     assert_eq!(rt; key_of(&schema, 0, &row), Key::of_int(-7));

@@ -1,7 +1,7 @@
 // Worked examples from outside, and that each call succeeds with ample memory.
 use row_types::{
-    Block, Name, Piece2, Pieces, Row, Schema, SchemaFault, SlotFault, TableDef, Text, Value,
-    schema_texts_are_short,
+    Block, Items, Name, PlacedText, Row, Schema, SchemaFault, SlotFault, TableDef, Text, TryCopy,
+    Value, schema_texts_are_short,
 };
 use sql_parse::{Statement, parse};
 use std::alloc::Global;
@@ -22,7 +22,7 @@ fn pair(alloc: Global, number: i64, text: &str) -> Result<Row, Fail> {
     let mut values = Vec::new(alloc);
     values.push(Value::Int(number))?;
     values.push(Value::Text(Text::new(alloc, text)?))?;
-    Ok(Row::new(values))
+    Ok(Row::from_vec(values))
 }
 
 #[test]
@@ -90,7 +90,7 @@ fn tables_are_refused_in_order(rt: HostRuntime) -> Result<(), Fail> {
         (MANY, Some(SchemaFault::Tables { limit: 16 })),
     ] {
         let made = table(rt.alloc(), text)?;
-        assert_eq!(rt; schema.add(&made).err(), want, "{text}");
+        assert_eq!(rt; schema.add(made).err(), want, "{text}");
     }
     assert_eq!(rt; schema.copy()?.tables().len(), 16);
     Ok(())
@@ -99,7 +99,7 @@ fn tables_are_refused_in_order(rt: HostRuntime) -> Result<(), Fail> {
 /// A table with a whole number and a text of at most three bytes.
 fn small(alloc: Global) -> Result<Schema, Fail> {
     let mut schema = Schema::empty(alloc);
-    schema.add(&table(alloc, "CREATE TABLE kv (id INT PRIMARY KEY, t TEXT(3))")?)?;
+    schema.add(table(alloc, "CREATE TABLE kv (id INT PRIMARY KEY, t TEXT(3))")?)?;
     Ok(schema)
 }
 
@@ -137,7 +137,7 @@ fn a_row_is_written_and_read_to_the_byte(rt: HostRuntime) -> Result<(), Fail> {
     schema.encode(0, &row, &mut slot);
     assert_eq!(rt; slot, SLOT);
     let read = schema.decode(rt.alloc(), 0, &slot)?.ok_or("no row")?;
-    assert_eq!(rt; read.values(), row.values());
+    assert_eq!(rt; read.as_slice(), row.as_slice());
     let keys = schema.key_values(rt.alloc(), 0, &row)?.copy()?;
     assert_eq!(rt; keys.as_slice(), [-2].as_slice());
     Ok(())
@@ -209,11 +209,9 @@ fn statements_keep_text_and_place(rt: HostRuntime) -> Result<(), Fail> {
     let alloc = rt.alloc();
     let text = Text::new(alloc, "COMMIT")?;
     assert!(rt; text.as_str().len() < 7);
-    let mut pieces = Vec::new(alloc);
-    pieces.push(Piece2::new(5, text.copy()?))?;
-    let block = Block {
-        statements: Pieces::new(pieces),
-    };
+    let mut statements = Items::new(alloc);
+    statements.push(PlacedText::new(5, text.copy()?))?;
+    let block = Block { statements };
     let kept = block.copy()?.statements.into_vec();
     assert_eq!(rt; kept.len(), 1);
     assert_eq!(rt; kept[0].base(), 5);

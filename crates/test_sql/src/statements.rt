@@ -78,11 +78,11 @@ fn a_statement_has_its_parts_in_order(rt: HostRuntime) -> Result<(), Fail> {
     let rows = [
         (
             "create table t (a INT, b TEXT(3) primary key, c bigint PRIMARY KEY)",
-            "Create(TableDef { name: Name { text: \"t\" }, columns: Columns { columns: [Column { name: Name { text: \"a\" }, kind: Int }, Column { name: Name { text: \"b\" }, kind: Text(3) }, Column { name: Name { text: \"c\" }, kind: Int }] }, keys: Marks { marks: [1, 2] } })",
+            "Create(TableDef { name: Name { text: \"t\" }, columns: Items { items: [Column { name: Name { text: \"a\" }, kind: Int }, Column { name: Name { text: \"b\" }, kind: Text(3) }, Column { name: Name { text: \"c\" }, kind: Int }] }, keys: Items { items: [1, 2] } })",
         ),
         (
             "INSERT INTO t VALUES (-9223372036854775808, 'it''s'), (007)",
-            "Insert(Insert { table: Name { text: \"t\" }, rows: Items { items: [Row { values: [Int(-9223372036854775808), Text(Text { text: \"it's\" })] }, Row { values: [Int(7)] }] } })",
+            "Insert(Insert { table: Name { text: \"t\" }, rows: Items { items: [Items { items: [Int(-9223372036854775808), Text(Text { text: \"it's\" })] }, Items { items: [Int(7)] }] } })",
         ),
         (
             "SELECT b, a FROM t WHERE a != 1 AND b <= '' ORDER BY c DESC LIMIT 2",

@@ -4,4 +4,4 @@ use Rattle.row_types.proofs.ReadingSchemas.{with_front}
 use Rattle.row_types.proofs.schema_text.columns_from.Given as goal
 
 abbrev pub invariant-loop : goal.invariant-loop
-invariant-loop l = with_front l.columns.items (columns_from (l.count - l.counter) l.rest) ≡ columns_from l.count l.bytes
+invariant-loop l = with_front l.columns (columns_from (l.count - l.counter) l.rest) ≡ columns_from l.count l.bytes

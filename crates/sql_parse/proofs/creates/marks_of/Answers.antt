@@ -12,7 +12,7 @@ loop-i-preserved c =
     let column = c.index-columns-i.result in
     let marks = marks_of 0 (take i columns) in
     let more = marks_more columns i column c.loop-i-test.true c.index-columns-i.is in
-    elim c.if-column.branch as (λ _. c.if-column.marks.items ≡ marks_of 0 (take (i + 1) columns)) [
-      | then-column+in_ok-push w ↦ ap (λ v. v.items) w.marks-is ∙ w.in_ok-push.ensures.items ∙ ap (λ (l : List ℕ). l ++ w.min.result ∷ []) c.loop-i.invariant ∙ ap (λ (n : ℕ). marks ++ n ∷ []) w.min.ensures ∙ ap (λ (l : List ℕ). marks ++ l) (sym (marks_yes i column w.if-column.true)) ∙ sym more
-      | else-column w ↦ ap (λ v. v.items) w.marks-is ∙ c.loop-i.invariant ∙ sym (append-nil marks) ∙ ap (λ (l : List ℕ). marks ++ l) (sym (marks_no i column w.if-column.false)) ∙ sym more
+    elim c.if-column.branch as (λ _. c.if-column.marks ≡ marks_of 0 (take (i + 1) columns)) [
+      | then-column+in_ok-push w ↦ w.marks-is ∙ w.in_ok-push.ensures.ok ∙ ap (λ (l : List ℕ). l ++ w.min.result ∷ []) c.loop-i.invariant ∙ ap (λ (n : ℕ). marks ++ n ∷ []) w.min.ensures ∙ ap (λ (l : List ℕ). marks ++ l) (sym (marks_yes i column w.if-column.true)) ∙ sym more
+      | else-column w ↦ w.marks-is ∙ c.loop-i.invariant ∙ sym (append-nil marks) ∙ ap (λ (l : List ℕ). marks ++ l) (sym (marks_no i column w.if-column.false)) ∙ sym more
     ]

@@ -6,7 +6,7 @@ use Rattle.row_types.proofs.schema.Schema.add.Goals as goal
 
 pub invariant_of-self-2 : goal.invariant_of-self-2
 invariant_of-self-2 c =
-    let none : refusal c.self.inside.tables.items c.args.def.now ≡ None = grind (arith, common_steps) in
-    let named : IsNamed c.args.def.now = c.in_default.ensures.named in
-    let items : c.push.new.self.items ≡ c.self.inside.tables.items ++ c.args.def.now ∷ [] = grind (arith, common_steps) in
-    subst IsSchema (sym items) (schema_push c.self.inside.tables.items c.args.def.now c.self.invariant named none)
+    let none : refusal c.self.inside.tables c.args.def ≡ None = grind (arith, common_steps) in
+    let named : IsNamed c.args.def = c.in_default.ensures.named in
+    let items : c.push.new.self ≡ c.self.inside.tables ++ c.args.def ∷ [] = grind (arith, common_steps) in
+    subst IsSchema (sym items) (schema_push c.self.inside.tables c.args.def c.self.invariant named none)

@@ -10,4 +10,4 @@ pub commas-smaller : goal.commas-smaller
 commas-smaller c = round_ends (sign Comma) IsColumn column_at _ column_exact (quiet_sign Comma) c.commas.self _ _ _ c.commas-test.ensures.found c.commas-test.ensures.passed c.in_ok-column-2.ensures
 
 pub commas-preserved : goal.commas-preserved
-commas-preserved c = round_keeps (sign Comma) IsColumn column_at _ column_exact (quiet_sign Comma) c.commas.self _ _ _ c.commas-test.ensures.found c.commas-test.ensures.passed c.in_ok-column-2.ensures _ _ _ c.commas.invariant c.in_ok-push-2.ensures.items
+commas-preserved c = round_keeps (sign Comma) IsColumn column_at _ column_exact (quiet_sign Comma) c.commas.self _ _ _ c.commas-test.ensures.found c.commas-test.ensures.passed c.in_ok-column-2.ensures _ _ _ c.commas.invariant c.in_ok-push-2.ensures.ok

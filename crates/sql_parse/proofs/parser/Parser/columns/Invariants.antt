@@ -8,7 +8,7 @@ use Rattle.sql_parse.proofs.parser.Parser.columns.Given as goal
 
 -- what was read so far, and what is left to read
 abbrev pub invariant-commas : goal.invariant-commas
-invariant-commas l = Looped (sign Comma) second column_at (listed_at column_at l.fn.self) l.columns.items l.self
+invariant-commas l = Looped (sign Comma) second column_at (listed_at column_at l.fn.self) l.columns l.self
 
 abbrev pub decreases-commas : goal.decreases-commas
 decreases-commas l = length l.self.items

@@ -8,7 +8,7 @@ use Rattle.sql_parse.proofs.parser.Parser.values.Given as goal
 
 -- what was read so far, and what is left to read
 abbrev pub invariant-commas : goal.invariant-commas
-invariant-commas l = Looped (sign Comma) second value_at (listed_at value_at l.fn.self) l.values.items l.self
+invariant-commas l = Looped (sign Comma) second value_at (listed_at value_at l.fn.self) l.values l.self
 
 abbrev pub decreases-commas : goal.decreases-commas
 decreases-commas l = length l.self.items

@@ -1,6 +1,0 @@
--- the copies so far are the front
-use Rattle.std.proofs.Common.{◌≡◌, take}
-use Rattle.row_types.proofs.row.Row.copy.Given as goal
-
-abbrev pub invariant-loop-value : goal.invariant-loop-value
-invariant-loop-value l = l.values.items ≡ take l.value-index l.value-items
