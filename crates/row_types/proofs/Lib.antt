@@ -2,6 +2,7 @@ pub mod Bytes
 pub mod Cells
 pub mod ReadingCells
 pub mod WritingCells
+pub mod ZeroWords
 pub mod SlotLaws
 pub mod SchemaLaws
 pub mod NameReading

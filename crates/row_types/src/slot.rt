@@ -1,5 +1,5 @@
 // How a row, or no row, stands in the bytes of a slot.
-ghost use Rattle.std.specs.Prelude.{◌≡◌, ℕ, ◌+◌, ◌-◌, ◌≤◌, ◌<◌, ◌^◌, ◌↔◌, length, drop, None, Some, IfOk, IfSome, IsTrue};
+ghost use Rattle.std.specs.Prelude.{◌≡◌, ℕ, ◌+◌, ◌-◌, ◌≤◌, ◌<◌, ◌^◌, ◌↔◌, length, drop, replicate, None, Some, IfOk, IfSome, IsTrue};
 ghost use Rattle.row_types.specs.Slot.{width, widths, slot_len, cell_text, slot_text, empty_slot, FitsKind, IsRowOf, first_not_zero, cell_fault, cells_fault, slot_fault};
 ghost use Rattle.row_types.specs.Reading.{cell_value, cells_values, read_slot, IsUnlessMemory};
 
@@ -59,13 +59,36 @@ pub(crate) fn is_row_of(columns: &[Column], values: &[Value]) -> bool
     true
 }
 
+/// Whether these are eight bytes, each 0.
+fn is_zero_word(bytes: &[u8]) -> bool
+    ensures { IsTrue result → bytes.now ≡ replicate 8 0 }
+{
+    match bytes {
+        [a, b, c, d, e, f, g, h] => u64::from_le_bytes([*a, *b, *c, *d, *e, *f, *g, *h]) == 0,
+        _ => false,
+    }
+}
+
+/// How many bytes stand in the words of eight zeros at the front: those of a padding are tested so, and not one by one.
+fn zeros_in_words(bytes: &[u8]) -> usize
+    ensures zeros { (at : ℕ) → first_not_zero at bytes.now ≡ first_not_zero (at + result) (drop result bytes.now) }
+    ensures within { result ≤ length bytes.now }
+{
+    let mut len = 0;
+    while bytes.len() - len >= 8 && is_zero_word(&bytes[len..len + 8]) {
+        len += 8;
+    }
+    len
+}
+
 fn first_not_zero(at: usize, bytes: &[u8]) -> Option<usize>
     requires { at + length bytes.now < 2 ^ 64 }
     ensures { result ≡ first_not_zero at bytes.now }
 {
-    for (i, byte) in bytes.iter().enumerate() {
+    let zeros = zeros_in_words(bytes);
+    for (i, byte) in bytes[zeros..].iter().enumerate() {
         if *byte != 0 {
-            return Some(at + i);
+            return Some(at + zeros + i);
         }
     }
     None
@@ -134,7 +157,8 @@ fn cell_value(alloc: Global, kind: Kind, bytes: &[u8]) -> Result<Value, OutOfMem
         Kind::Text(_) => {
             let (len, text) = bytes.split_at(2);
             let len = u16::from_le_bytes([len[0], len[1]]);
-            let text = std::str::from_utf8(&text[..len as usize]).unwrap();
+            // SAFETY: the column has no fault, so its text was found to be UTF-8.
+            let text = unsafe { std::str::from_utf8_unchecked(&text[..len as usize]) };
             Ok(Value::Text(Text::new(alloc, text)?))
         }
     }
