@@ -2,12 +2,13 @@
 use Rattle.std.proofs.Common.{◌≡◌, ℕ, ◌+◌, ◌<◌, true, false, not, eqb, List, ◌∷◌, length, get_or, drop, refl, sym, ap, ◌∙◌}
 use Rattle.std.proofs.Math.Numerals.{add-one}
 use Rattle.std.proofs.Math.Seq.{drop-cons}
-use Rattle.sql_lex.specs.Tokens.{after_gap, opens_comment, is_blank}
+use Rattle.sql_lex.specs.Tokens.{opens_comment, is_blank}
+use Rattle.sql_lex.specs.Reading.{after_gap}
 
-opened : (b : ℕ) (bs : List ℕ) → opens_comment (b ∷ bs) ≡ true → after_gap false (b ∷ bs) ≡ after_gap true bs
+pub opened : (b : ℕ) (bs : List ℕ) → opens_comment (b ∷ bs) ≡ true → after_gap false (b ∷ bs) ≡ after_gap true bs
 opened b bs e = rw e refl
 
-blank : (b : ℕ) (bs : List ℕ) → opens_comment (b ∷ bs) ≡ false → is_blank b ≡ true → after_gap false (b ∷ bs) ≡ after_gap false bs
+pub blank : (b : ℕ) (bs : List ℕ) → opens_comment (b ∷ bs) ≡ false → is_blank b ≡ true → after_gap false (b ∷ bs) ≡ after_gap false bs
 blank b bs e f = rw (e, f) refl
 
 module _ (bytes : List ℕ) (i : ℕ) (inside : i < length bytes) where

@@ -1,5 +1,5 @@
 pub mod Faults
-pub mod Found
+pub mod FoundToken
 pub mod Letters
 pub mod Reading
 pub mod Scans

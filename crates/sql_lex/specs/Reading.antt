@@ -1,14 +1,25 @@
 -- How the front of a text is read, a step at a time; that this finds the tokens of Tokens is proved.
-use Rattle.std.specs.Prelude.{ℕ, ◌+◌, ◌-◌, ◌^◌, min, Bool, true, false, ◌==◌, List, [], ◌∷◌, map, take, Option, None, Some, option_map, slice_index, if◌then◌else◌}
+use Rattle.std.specs.Prelude.{ℕ, ◌+◌, ◌-◌, ◌^◌, min, Bool, true, false, not, ◌==◌, List, [], ◌∷◌, map, take, Option, None, Some, option_map, slice_index, if◌then◌else◌}
 use Rattle.std.specs.List.{prefix_len, find}
 use Rattle.std.specs.Str.{bytes_eq}
 use Rattle.std.specs.Char.{to_ascii_lowercase, is_ascii_digit, is_ascii_alphabetic}
 use Rattle.sql_lex.specs.Letters.{letters}
+use Rattle.sql_lex.specs.Tokens.{is_blank, opens_comment}
 use Rattle.sql_lex.specs.Spelling.{Lexeme, Word, Name, Number, Literal, Sign, is_word_byte, is_allowed, number_of}
 use Rattle.sql_lex.specs.declared.keyword.Keyword.{Keyword}
 use Rattle.sql_lex.specs.declared.keyword.Keyword.TheVariants.{And, Asc, Begin, Bigint, By, Checkpoint, Commit, Count, Create, Delete, Desc, From, Insert, Int, Integer, Into, Key, Limit, Order, Primary, Rollback, Select, Set, Sum, Table, Text, Update, Values, Varchar, Where}
 use Rattle.sql_lex.specs.declared.token.Sign.{Sign as Mark}
 use Rattle.sql_lex.specs.declared.token.Sign.TheVariants.{Open, Close, Comma, Star, Plus, Minus, Equal, NotEqual, Less, LessEqual, Greater, GreaterEqual}
+
+-- what is left behind the blanks and comments at the front; a comment ends with its line
+abbrev pub after_gap : Bool → List ℕ → List ℕ
+after_gap in_comment [] = []
+after_gap true (b ∷ bs) = after_gap (not (b == 10)) bs
+after_gap false (b ∷ bs) = if opens_comment (b ∷ bs) then after_gap true bs else (if is_blank b then after_gap false bs else b ∷ bs)
+
+-- what is left behind the gap before the next token
+abbrev pub from_token : List ℕ → List ℕ
+from_token text = after_gap false text
 
 -- all words of the language
 abbrev pub keywords : List Keyword

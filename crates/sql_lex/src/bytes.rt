@@ -3,7 +3,8 @@ ghost use Rattle.std.specs.Prelude.{◌≡◌, ◌≤◌, length, drop};
 ghost use Rattle.std.specs.List.{prefix_len};
 ghost use Rattle.std.specs.Char.{is_ascii_digit};
 ghost use Rattle.sql_lex.specs.Spelling.{is_word_byte, is_allowed};
-ghost use Rattle.sql_lex.specs.Tokens.{is_blank, opens_comment, from_token};
+ghost use Rattle.sql_lex.specs.Tokens.{is_blank, opens_comment};
+ghost use Rattle.sql_lex.specs.Reading.{from_token};
 
 pub(crate) fn is_word_byte(byte: u8) -> bool
     ensures { result ≡ is_word_byte byte }

@@ -1,11 +1,11 @@
 // The tokens of a whole text.
 ghost use Rattle.std.specs.Prelude.{◌≡◌, ℕ, ◌+◌, ◌<◌, ◌^◌, List, length, IfOk, IfErr};
-ghost use Rattle.sql_lex.specs.Tokens.{Item, AreTokens, StopsAt};
+ghost use Rattle.sql_lex.specs.Tokens.{Item, AreTokens, AreTokensUpTo};
 ghost use Rattle.sql_lex.specs.Seen.{items_of};
 ghost use Rattle.sql_lex.specs.Faults.{IfSyntax};
 
 use crate::OutOfMemory;
-use crate::scanning::{End, scan_tokens};
+use crate::scanning::{ScanEnd, scan_tokens};
 use crate::token::Token;
 use std::alloc::Global;
 use thiserror::Error;
@@ -37,11 +37,11 @@ pub fn lex<'a>(alloc: Global, text: &'a str, base: u64) -> Result<Vec<Token<'a>>
     requires { base + length text.now < 2 ^ 63 }
     ensures tokens { IfOk result (λ tokens. AreTokens base text.now (items_of tokens.items)) }
     ensures syntax { IfErr result (λ fault. IfSyntax fault (λ at.
-        (items : List Item) × StopsAt base text.now items at)) }
+        (items : List Item) × AreTokensUpTo base text.now items at)) }
 {
     let found = scan_tokens(alloc, text, base)?;
     match found.end {
-        End::Whole => Ok(found.tokens),
-        End::NoToken(at) => Err(LexFault::Syntax { at }),
+        ScanEnd::Whole => Ok(found.tokens),
+        ScanEnd::NoToken(at) => Err(LexFault::Syntax { at }),
     }
 }

@@ -11,7 +11,7 @@ mod token;
 
 pub use causes::OutOfMemory;
 pub use keyword::Keyword;
-pub use laws::{one_end, one_token_list};
+pub use laws::{each_text_has_tokens, one_end, one_token_list};
 pub use lexing::{LexFault, lex};
-pub use scanning::{End, Scan, scan_tokens};
+pub use scanning::{Scan, ScanEnd, scan_tokens};
 pub use token::{Sign, Token, TokenKind};

@@ -10,7 +10,7 @@ use std::alloc::Global;
 
 /// Where the tokens of a text end.
 #[derive(Clone, Copy, Debug, PartialEq, Eq)]
-pub enum End {
+pub enum ScanEnd {
     /// With the text.
     Whole,
     /// At this place of the script, where something stands that isn't a token.
@@ -21,7 +21,7 @@ pub enum End {
 #[derive(Debug, Drop)]
 pub struct Scan<'a> {
     pub tokens: Vec<Token<'a>>,
-    pub end: End,
+    pub end: ScanEnd,
 }
 
 /// Reads the tokens of `text`, which begins at the place `base` of the script, as far as there are any.
@@ -35,7 +35,7 @@ pub fn scan_tokens<'a>(alloc: Global, text: &'a str, base: u64) -> Result<Scan<'
         let place = base + at as u64;
         match token_at(text, at) {
             None => {
-                let end = End::NoToken(place);
+                let end = ScanEnd::NoToken(place);
                 return Ok(Scan { tokens, end });
             }
             Some(found) => {
@@ -46,6 +46,6 @@ pub fn scan_tokens<'a>(alloc: Global, text: &'a str, base: u64) -> Result<Scan<'
             }
         }
     }
-    let end = End::Whole;
+    let end = ScanEnd::Whole;
     Ok(Scan { tokens, end })
 }

@@ -4,7 +4,7 @@ ghost use Rattle.std.specs.List.{list_all};
 ghost use Rattle.std.specs.Char.{is_ascii_digit, is_ascii_alphabetic};
 ghost use Rattle.sql_lex.specs.Spelling.{number_of};
 ghost use Rattle.sql_lex.specs.Reading.{closes, sign_of, front, word_front, number_front, literal_front, sign_front};
-ghost use Rattle.sql_lex.specs.Found.{seen};
+ghost use Rattle.sql_lex.specs.FoundToken.{seen};
 
 use crate::bytes::{digits_len, is_allowed, word_len};
 use crate::keyword::keyword_of;
@@ -12,12 +12,12 @@ use crate::token::{Sign, TokenKind};
 
 // A token, and how many bytes it has.
 #[derive(Clone, Copy)]
-pub(crate) struct Found<'a> {
+pub(crate) struct FoundToken<'a> {
     pub(crate) kind: TokenKind<'a>,
     pub(crate) len: usize,
 }
 
-fn word_at<'a>(text: &'a str, at: usize) -> Found<'a>
+fn word_at<'a>(text: &'a str, at: usize) -> FoundToken<'a>
     requires inside { at < length text.now }
     requires letter { IsTrue (is_ascii_alphabetic (slice_index text.now at)) }
     ensures { Some (seen result) ≡ word_front (drop at text.now) }
@@ -25,11 +25,11 @@ fn word_at<'a>(text: &'a str, at: usize) -> Found<'a>
     let len = word_len(&text.as_bytes()[at..]);
     let word = &text[at..at + len];
     match keyword_of(word) {
-        Some(keyword) => Found {
+        Some(keyword) => FoundToken {
             kind: TokenKind::Word(keyword),
             len,
         },
-        None => Found {
+        None => FoundToken {
             kind: TokenKind::Name(word),
             len,
         },
@@ -50,11 +50,11 @@ fn number_of(digits: &[u8]) -> u64
 }
 
 #[tactic(auto, unfolding(crate::specs::Reading::number_front), using(crate::proofs::Fronts::digits_taken))]
-fn number_at<'a>(bytes: &[u8]) -> Found<'a>
+fn number_at<'a>(bytes: &[u8]) -> FoundToken<'a>
     ensures { Some (seen result) ≡ number_front bytes.now }
 {
     let len = digits_len(bytes);
-    Found {
+    FoundToken {
         kind: TokenKind::Number(number_of(&bytes[..len])),
         len,
     }
@@ -83,13 +83,13 @@ fn closes(bytes: &[u8]) -> Option<usize>
 
 // The literal whose opening quote stands at `at`.
 #[tactic(auto, unfolding(crate::specs::Reading::literal_front))]
-fn literal_at<'a>(text: &'a str, at: usize) -> Option<Found<'a>>
+fn literal_at<'a>(text: &'a str, at: usize) -> Option<FoundToken<'a>>
     requires inside { at < length text.now }
     requires quote { slice_index text.now at ≡ 39 }
     ensures { option_map seen result ≡ literal_front (drop (at + 1) text.now) }
 {
     let len = closes(&text.as_bytes()[at + 1..])?;
-    Some(Found {
+    Some(FoundToken {
         kind: TokenKind::Literal(&text[at + 1..at + 1 + len]),
         len: len + 2,
     })
@@ -120,20 +120,20 @@ fn sign_of(byte: u8, next: u8) -> Option<(Sign, usize)>
 }
 
 #[tactic(auto, unfolding(crate::specs::Reading::sign_front))]
-fn sign_at<'a>(bytes: &[u8]) -> Option<Found<'a>>
+fn sign_at<'a>(bytes: &[u8]) -> Option<FoundToken<'a>>
     requires { 0 < length bytes.now }
     ensures { option_map seen result ≡ sign_front bytes.now }
 {
     let next = if bytes.len() > 1 { bytes[1] } else { 0 };
     let (sign, len) = sign_of(bytes[0], next)?;
-    Some(Found {
+    Some(FoundToken {
         kind: TokenKind::Sign(sign),
         len,
     })
 }
 
 // The token at `at`, where one stands there.
-pub(crate) fn token_at<'a>(text: &'a str, at: usize) -> Option<Found<'a>>
+pub(crate) fn token_at<'a>(text: &'a str, at: usize) -> Option<FoundToken<'a>>
     requires { at < length text.now }
     ensures token { option_map seen result ≡ front (drop at text.now) }
     ensures within { IfSome result (λ found. (0 < found.len) × (at + found.len ≤ length text.now)) }

@@ -8,8 +8,8 @@ use Rattle.sql_lex.specs.declared.keyword.Keyword.{Keyword}
 use Rattle.sql_lex.specs.declared.keyword.Keyword.TheVariants as words
 use Rattle.sql_lex.specs.declared.token.Sign.{Sign as Mark}
 use Rattle.sql_lex.specs.declared.token.Sign.TheVariants as signs
-use Rattle.sql_lex.specs.declared.scanning.End.{End}
-use Rattle.sql_lex.specs.declared.scanning.End.TheVariants.{Whole, NoToken}
+use Rattle.sql_lex.specs.declared.scanning.ScanEnd.{ScanEnd}
+use Rattle.sql_lex.specs.declared.scanning.ScanEnd.TheVariants.{Whole, NoToken}
 use Rattle.row_types.specs.declared.row.Value.{Value}
 use Rattle.row_types.specs.declared.row.Value.TheVariants as values
 use Rattle.sql_parse.specs.declared.statement.Statement.{Statement}
@@ -251,24 +251,24 @@ unfoldable pub statement_at : Left → Read Statement
 statement_at left = either_at (word words.Create) create_at (either_at (word words.Insert) insert_at (either_at (word words.Select) select_at (either_at (word words.Update) update_at (either_at (word words.Delete) delete_at (one_at block_of))))) left
 
 -- no token is left
-abbrev pub ended : Left → List Item → Statement → Read Statement
-ended left [] statement = Ok (statement, left)
-ended left (item ∷ items) statement = Err item.at
+abbrev pub ended : {X : Type 0} → Left → List Item → X → Read X
+ended left [] value = Ok (value, left)
+ended left (item ∷ items) value = Err item.at
 
--- a statement, behind which nothing stands
-abbrev pub whole_at : Left → Read Statement
-whole_at left = statement_at left >>= λ x. ended x.1 x.1.items x.0
+-- a phrase, behind which nothing stands
+abbrev pub whole_by : {X : Type 0} → (Left → Read X) → Left → Read X
+whole_by p left = p left >>= λ x. ended x.1 x.1.items x.0
 
--- the statement that was read, without what is left
-abbrev pub value_alone : Read Statement → Result Statement ℕ
+-- the value that was read, without what is left
+abbrev pub value_alone : {X : Type 0} → Read X → Result X ℕ
 value_alone (Ok x) = Ok x.0
 value_alone (Err at) = Err at
 
--- the statement that the items are, which end at this place
-abbrev pub whole_of : ℕ → List Item → Result Statement ℕ
-whole_of end items = value_alone (whole_at (record { end = end; items = items }))
+-- the value that the items are, which end at this place
+abbrev pub whole_of : {X : Type 0} → (Left → Read X) → ℕ → List Item → Result X ℕ
+whole_of p end items = value_alone (whole_by p (record { end = end; items = items }))
 
 -- the place at which tokens end, of a text that ends at this place
-abbrev pub end_of : End → ℕ → ℕ
+abbrev pub end_of : ScanEnd → ℕ → ℕ
 end_of Whole whole = whole
 end_of (NoToken at) whole = at

@@ -3,12 +3,13 @@ ghost use Rattle.std.specs.Prelude.{◌≡◌, ℕ, ◌+◌, ◌<◌, ◌^◌, l
 ghost use Rattle.sql_lex.specs.Seen.{items_of};
 ghost use Rattle.sql_parse.specs.Giving.{Gives};
 ghost use Rattle.sql_parse.specs.Faults.{IsText, IsFault, IfSyntax};
-ghost use Rattle.sql_parse.specs.Reading.{statement_at, whole_at, whole_of, end_of};
+ghost use Rattle.sql_parse.specs.Grammar.{IsStatement};
+ghost use Rattle.sql_parse.specs.Reading.{statement_at, whole_by, whole_of, end_of};
 
 use crate::fault::ParseFault;
 use crate::parser::Parser;
 use crate::statement::Statement;
-use sql_lex::{End, Keyword, Token, TokenKind, scan_tokens};
+use sql_lex::{Keyword, ScanEnd, Token, TokenKind, scan_tokens};
 use std::alloc::Global;
 
 impl<'a> Parser<'a> {
@@ -34,7 +35,7 @@ impl<'a> Parser<'a> {
 
     // A statement, behind which nothing stands.
     fn whole(&mut self, alloc: Global) -> Result<Statement, ParseFault>
-        ensures { Gives (λ statement. (statement, self.new)) result (whole_at self.old) }
+        ensures { Gives (λ statement. (statement, self.new)) result (whole_by statement_at self.old) }
     {
         let statement = self.statement(alloc)?;
         match self.kind() {
@@ -45,18 +46,18 @@ impl<'a> Parser<'a> {
 }
 
 // The place at which the tokens end, of a text that ends at `whole`.
-fn end_of(end: End, whole: u64) -> u64
+fn end_of(end: ScanEnd, whole: u64) -> u64
     ensures { result ≡ end_of end whole }
 {
     match end {
-        End::Whole => whole,
-        End::NoToken(at) => at,
+        ScanEnd::Whole => whole,
+        ScanEnd::NoToken(at) => at,
     }
 }
 
 // The statement that the tokens are, which end at `end`.
 fn statement_of(alloc: Global, tokens: &[Token], end: u64) -> Result<Statement, ParseFault>
-    ensures { Gives (λ statement. statement) result (whole_of end (items_of tokens.now)) }
+    ensures { Gives (λ statement. statement) result (whole_of statement_at end (items_of tokens.now)) }
 {
     Parser::new(tokens, end).whole(alloc)
 }
@@ -68,14 +69,14 @@ fn statement_of(alloc: Global, tokens: &[Token], end: u64) -> Result<Statement, 
 /// too great for its sign counts from the sign on. `OutOfMemory` may come at any time.
 pub fn parse(alloc: Global, text: &str, base: u64) -> Result<Statement, ParseFault>
     requires { base + length text.now < 2 ^ 63 }
-    ensures statement { IfOk result (λ statement. IsText base text.now statement) }
-    ensures syntax { IfErr result (λ fault. IfSyntax fault (λ at. IsFault base text.now at)) }
+    ensures statement { IfOk result (λ statement. IsText IsStatement base text.now statement) }
+    ensures syntax { IfErr result (λ fault. IfSyntax fault (λ at. IsFault IsStatement base text.now at)) }
 {
     let found = scan_tokens(alloc, text, base)?;
     let end = end_of(found.end, base + text.len() as u64);
     let statement = statement_of(alloc, &found.tokens, end)?;
     match found.end {
-        End::Whole => Ok(statement),
-        End::NoToken(at) => Err(ParseFault::Syntax { at }),
+        ScanEnd::Whole => Ok(statement),
+        ScanEnd::NoToken(at) => Err(ParseFault::Syntax { at }),
     }
 }

@@ -1,5 +1,5 @@
 // What no clause says: that with ample memory the tokens come, and where.
-use sql_lex::{End, Keyword, LexFault, Sign, TokenKind, lex, scan_tokens};
+use sql_lex::{ScanEnd, Keyword, LexFault, Sign, TokenKind, lex, scan_tokens};
 use std::test::Fail;
 
 #[test]
@@ -56,7 +56,7 @@ fn what_is_no_token_is_refused_at_its_first_byte(rt: HostRuntime) -> Result<(), 
         let fault = lex(rt.alloc(), text, 40).err();
         assert_eq!(rt; fault, Some(LexFault::Syntax { at }), "{text}");
         let found = scan_tokens(rt.alloc(), text, 40)?;
-        assert_eq!(rt; found.end, End::NoToken(at));
+        assert_eq!(rt; found.end, ScanEnd::NoToken(at));
     }
     let number = lex(rt.alloc(), "99999999999999999999", 0)?;
     assert_eq!(rt; number.len(), 1);

@@ -1,4 +1,4 @@
-use Rattle.std.proofs.Common.{◌+◌, ◌∙◌, arith}
+use Rattle.std.proofs.Common.{◌∙◌, arith}
 use Rattle.row_types.proofs.ZeroWords.{past_word}
 use Rattle.row_types.proofs.slot.zeros_in_words.Goals as goal
 

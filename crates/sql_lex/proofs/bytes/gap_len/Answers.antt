@@ -1,5 +1,6 @@
 use Rattle.std.proofs.Common.{◌≡◌, ◌+◌, Bool, true, false, drop, sym, ap, ◌∙◌}
-use Rattle.sql_lex.specs.Tokens.{after_gap, from_token, opens_comment}
+use Rattle.sql_lex.specs.Tokens.{opens_comment}
+use Rattle.sql_lex.specs.Reading.{after_gap, from_token}
 use Rattle.sql_lex.proofs.Fronts.{slice_rest}
 use Rattle.sql_lex.proofs.Gaps.{gap_in_comment, gap_opens, gap_blank}
 use Rattle.sql_lex.proofs.bytes.gap_len.Goals as goal

@@ -1,5 +1,5 @@
 use Rattle.std.proofs.Common.{◌≡◌, drop}
-use Rattle.sql_lex.specs.Tokens.{after_gap, from_token}
+use Rattle.sql_lex.specs.Reading.{after_gap, from_token}
 use Rattle.sql_lex.proofs.bytes.gap_len.Given as goal
 
 -- what is left decides where the gap ends

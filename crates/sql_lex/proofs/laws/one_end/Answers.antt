@@ -1,8 +1,8 @@
-use Rattle.sql_lex.proofs.Runs.{no_place, one_stop}
+use Rattle.sql_lex.proofs.Runs.{not_both, one_place}
 use Rattle.sql_lex.proofs.laws.one_end.Goals as goal
 
 pub returns-clause-not_both : goal.returns-clause-not_both
-returns-clause-not_both c = no_place
+returns-clause-not_both c = not_both
 
 pub returns-clause-one_place : goal.returns-clause-one_place
-returns-clause-one_place c = one_stop
+returns-clause-one_place c = one_place

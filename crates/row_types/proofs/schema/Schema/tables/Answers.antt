@@ -1,4 +1,3 @@
-use Rattle.std.proofs.Common.{length, ◌≤◌, subst, sym}
 use Rattle.row_types.proofs.SchemaLaws.{table_count}
 use Rattle.row_types.proofs.schema.Schema.tables.Goals as goal
 
