@@ -1,6 +1,7 @@
 -- The session that a verdict names.
 use Rattle.std.proofs.Common.{◌≡◌, ℕ, suc, ◌≤◌, min, Bool, true, false, cond, List, [], ◌∷◌, map, Option, None, Some, refl, sym, ◌∙◌, ap, subst, arith, inl, inr}
-use Rattle.std.proofs.lemmas.Bool.{cases_lt}
+use Rattle.std.proofs.lemmas.Bool.{cases_lt, true≢false}
+use Rattle.std.proofs.lemmas.Option.{none-some}
 use Rattle.std.specs.Prelude.{◌⊎◌, nat_le}
 use Rattle.std.specs.List.{list_any, filter, fold, Any, AllByRecursion}
 use Rattle.key_space.specs.declared.lock.Held.{Held}
@@ -22,15 +23,9 @@ least_more a (n ∷ ns) who e =
 cons_is_nil : {A : Type 0} (x : A) (xs : List A) → x ∷ xs ≡ [] → ⊥
 cons_is_nil x xs e = cc
 
-true_is_false : true ≡ false → ⊥
-true_is_false e = cc
-
 map_nil : {A B : Type 0} (f : A → B) (xs : List A) → map f xs ≡ [] → xs ≡ []
 map_nil f [] e = refl
 map_nil f (x ∷ xs) e = absurd (cons_is_nil _ _ e)
-
-none_is_some : (x : ℕ) → ◌≡◌ {A = Option ℕ} None (Some x) → ⊥
-none_is_some x e = cc
 
 module _ (test : Held → Bool) where
   abbrev Passes : ℕ → Held → Type 0
@@ -59,7 +54,7 @@ module _ (test : Held → Bool) where
       → ((w : ℕ) → least_owner test held ≡ Some w → IsLeastOwner test held w) → IsLeastOwner test (h ∷ held) who
   step h held who false t e rest =
       let r = rest who e in
-      record { there = later who h held r.there; least = ((λ passes. absurd (true_is_false (sym passes ∙ t))), r.least) }
+      record { there = later who h held r.there; least = ((λ passes. absurd (true≢false (sym passes ∙ t))), r.least) }
   step h held who true t e rest =
       elim (least_more h.who (map (λ x. x.who) (filter test held)) who e) [
         | inl m ↦ record {
@@ -78,7 +73,7 @@ module _ (test : Held → Bool) where
       ]
 
   pub least_owner_is : (held : List Held) (who : ℕ) → least_owner test held ≡ Some who → IsLeastOwner test held who
-  least_owner_is [] who e = absurd (none_is_some who e)
+  least_owner_is [] who e = absurd (none-some who e)
   least_owner_is (h ∷ held) who e = step h held who (test h) refl e (λ w found. least_owner_is held w found)
 
 -- ---- the steps of the verdict

@@ -3,14 +3,11 @@ use Rattle.std.proofs.Common.{◌≡◌, ℕ, ◌<◌, ◌≤◌, Bool, true, fa
 use Rattle.std.specs.Prelude.{nat_lt}
 use Rattle.std.specs.Option.{option_or}
 use Rattle.std.specs.List.{filter, find}
-use Rattle.std.proofs.lemmas.Bool.{cases_lt, lt-ltb, le-ltb, eqb-true, eqb-false}
+use Rattle.std.proofs.lemmas.Bool.{true≢false, cases_lt, lt-ltb, le-ltb, eqb-true, eqb-false}
 use Rattle.std.proofs.lemmas.List.Folds.{find-append}
 use Rattle.row_types.specs.declared.row.Value.{Value}
 use Rattle.row_types.specs.Keys.{row_key}
 use Rattle.key_space.specs.Plays.{Rows, row_at, with_row, without_key}
-
-true_is_false : true ≡ false → ⊥
-true_is_false e = cc
 
 option_or_none : {A : Type 0} (o : Option A) → option_or o None ≡ o
 option_or_none None = refl
@@ -21,7 +18,7 @@ module _ (p test : List Value → Bool) where
   kept_step x xs true e keeps rest = ap (λ (o : Option (List Value)). cond (p x) (Some x) o) rest
   kept_step x xs false e keeps rest =
       elim (p x) as (λ b. (b ≡ true → test x ≡ true) → find p (filter test xs) ≡ cond b (Some x) (find p xs)) [
-        | true ↦ λ k. absurd (true_is_false (sym (k refl) ∙ e))
+        | true ↦ λ k. absurd (true≢false (sym (k refl) ∙ e))
         | false ↦ λ k. rest
       ] keeps
 
@@ -34,7 +31,7 @@ module _ (p test : List Value → Bool) where
   dropped_step x xs false e drops rest = rest
   dropped_step x xs true e drops rest =
       elim (p x) as (λ b. (b ≡ true → test x ≡ false) → cond b (Some x) (find p (filter test xs)) ≡ None) [
-        | true ↦ λ k. absurd (true_is_false (sym e ∙ k refl))
+        | true ↦ λ k. absurd (true≢false (sym e ∙ k refl))
         | false ↦ λ k. rest
       ] drops
 

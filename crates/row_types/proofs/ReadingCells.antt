@@ -1,16 +1,12 @@
 -- Reading columns one after another.
 use Rattle.std.proofs.Common.{◌≡◌, ℕ, ◌+◌, ◌-◌, ◌<◌, List, [], ◌∷◌, ◌++◌, length, get_or, take, drop, Option, None, Some, refl, sym, ◌∙◌, ap, append_assoc, arith}
-use Rattle.std.specs.Option.{option_or}
 use Rattle.std.proofs.lemmas.List.{drop-drop}
 use Rattle.row_types.specs.declared.definition.Column.{Column}
 use Rattle.row_types.specs.declared.row.Value.{Value}
 use Rattle.row_types.specs.Slot.{width, cell_fault, cells_fault}
 use Rattle.row_types.specs.Reading.{cell_value, cells_values}
 use Rattle.row_types.proofs.Cells.{columns_from, cells_fault_more}
-
-pub option_or_neither : (o p : Option ℕ) → option_or o p ≡ None → (o ≡ None) × (p ≡ None)
-option_or_neither None p e = (refl, e)
-option_or_neither (Some x) p e = absurd cc
+use Rattle.row_types.proofs.SchemaLaws.{neither}
 
 -- one column of the loop over them
 module _ (at w i : ℕ) (columns : List Column) (c : Column) (bytes : List ℕ) (inside : i < length columns) (is : c ≡ get_or columns i c) (w-is : w ≡ width c.kind) where
@@ -20,7 +16,7 @@ module _ (at w i : ℕ) (columns : List Column) (c : Column) (bytes : List ℕ) 
   no_fault_more none =
       let n : at + w - at ≡ width c.kind = omega arith in
       let place : at + 1 + width c.kind ≡ at + w + 1 = omega arith in
-      let both = option_or_neither _ _ (sym (cells_fault_more (at + 1) columns i c (drop at bytes) inside is) ∙ none) in
+      let both = neither _ _ (sym (cells_fault_more (at + 1) columns i c (drop at bytes) inside is) ∙ none) in
       let rest : drop (at + w) bytes ≡ drop (width c.kind) (drop at bytes) = rw (← w-is, drop-drop w at bytes) refl in
       (rw n both.0, rw (rest, ← place) both.1)
 

@@ -11,7 +11,7 @@ use Rattle.row_types.specs.declared.fault.SchemaFault.TheVariants.{TableExists, 
 use Rattle.row_types.specs.Slot.{slot_len}
 use Rattle.row_types.specs.Schema.{has_table, refused_if, refusal, AreAccepted, IsNamed, IsSchema, IsTable}
 
-neither : {A : Type 0} (o p : Option A) → option_or o p ≡ None → (o ≡ None) × (p ≡ None)
+pub neither : {A : Type 0} (o p : Option A) → option_or o p ≡ None → (o ≡ None) × (p ≡ None)
 neither None p e = (refl, e)
 neither (Some x) p e = absurd cc
 

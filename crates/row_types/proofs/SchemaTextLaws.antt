@@ -4,7 +4,8 @@ use Rattle.std.specs.Prelude.{◌&&◌, is_none, slice_index}
 use Rattle.std.specs.Str.{is_utf8}
 use Rattle.std.specs.Int.{w16, to_le_bytes, from_le_bytes}
 use Rattle.std.specs.List.{flat_map, AllByRecursion}
-use Rattle.std.proofs.lemmas.Bool.{ltb-false, le-ltb, leb-true, le-leb, eqb-true}
+use Rattle.std.proofs.lemmas.Option.{none-some}
+use Rattle.std.proofs.lemmas.Bool.{false≢true, ltb-false, le-ltb, leb-true, le-leb, eqb-true}
 use Rattle.std.proofs.lemmas.Str.{IsUtf8-from_is_utf8, is_utf8-from_IsUtf8}
 use Rattle.std.proofs.lemmas.Nat.{le_bytes_2, from_le_bytes-to_le_bytes_2}
 use Rattle.std.proofs.lemmas.List.{take_at, drop_at, take-append-drop, length-append, length-take, append-nil, nil_from_length}
@@ -21,31 +22,26 @@ use Rattle.row_types.specs.SchemaReading.{◌>>=◌, byte_at, is_name, name_at, 
 use Rattle.row_types.proofs.Bytes.{IsBytes, IsBytes-drop, IsBytes-take}
 use Rattle.row_types.proofs.SchemaLaws.{table_of_accepted, table_count}
 
-none_is_some : {A : Type 0} (x : A) → ◌≡◌ {A = Option A} None (Some x) → ⊥
-none_is_some x e = cc
-
 some_is : {A : Type 0} (x y : A) → ◌≡◌ {A = Option A} (Some x) (Some y) → x ≡ y
 some_is x y e = cc
 
 -- the value of a step that did not fail
 bind_some : {A B : Type 0} (o : Option A) (f : A → Option B) (y : B) → (o >>= f) ≡ Some y → (x : A) × (o ≡ Some x) × (f x ≡ Some y)
 bind_some (Some x) f y e = (x, refl, e)
-bind_some None f y e = absurd (none_is_some y e)
+bind_some None f y e = absurd (none-some y e)
 
 -- a test that let the value through, or that stopped it
 passed : {A : Type 0} (b : Bool) (x y : A) → cond b (Some x) None ≡ Some y → (b ≡ true) × (x ≡ y)
 passed true x y e = (refl, some_is x y e)
-passed false x y e = absurd (none_is_some y e)
+passed false x y e = absurd (none-some y e)
 
 unstopped : {A : Type 0} (b : Bool) (o : Option A) (y : A) → cond b None o ≡ Some y → (b ≡ false) × (o ≡ Some y)
-unstopped true o y e = absurd (none_is_some y e)
+unstopped true o y e = absurd (none-some y e)
 unstopped false o y e = (refl, e)
 
 both_true : (b c : Bool) → (b && c) ≡ true → (b ≡ true) × (c ≡ true)
 both_true true c e = (refl, e)
-both_true false c e = absurd (false_is_true e) where
-  false_is_true : false ≡ true → ⊥
-  false_is_true f = cc
+both_true false c e = absurd (false≢true e)
 
 -- what a reader took from the front
 record Takes (bytes text rest : List ℕ) : Type 0 where
@@ -56,7 +52,7 @@ takes_then : (a x b y c : List ℕ) → Takes a x b → Takes b y c → Takes a 
 takes_then a x b y c p q = record { parts = p.parts ∙ ap (λ (t : List ℕ). x ++ t) q.parts ∙ sym (append_assoc x y c); rest_fits = q.rest_fits }
 
 byte_takes : (bytes : List ℕ) (x : ℕ × List ℕ) → IsBytes bytes → byte_at bytes ≡ Some x → Takes bytes (x.0 ∷ []) x.1
-byte_takes [] x fits e = absurd (none_is_some x e)
+byte_takes [] x fits e = absurd (none-some x e)
 byte_takes (b ∷ bytes) x fits e = subst (λ (y : ℕ × List ℕ). Takes (b ∷ bytes) (y.0 ∷ []) y.1) (some_is (b, bytes) x e) (record { parts = refl; rest_fits = λ i. fits (suc i) })
 
 -- ---- names
@@ -108,11 +104,11 @@ kind_takes_by tag bytes x fits true c is-int is-text e =
     subst (λ (p : Kind × List ℕ). Takes (tag ∷ bytes) (kind_text p.0) p.1) (some_is (kind.Int, bytes) x e) whole
 kind_takes_by tag bytes x fits false true is-int is-text e =
     subst (λ (t : ℕ). Takes (t ∷ bytes) (kind_text x.0) x.1) (sym (eqb-true _ _ is-text)) (limit_takes bytes x (λ i. fits (suc i)) e)
-kind_takes_by tag bytes x fits false false is-int is-text e = absurd (none_is_some x e)
+kind_takes_by tag bytes x fits false false is-int is-text e = absurd (none-some x e)
 
 kind_takes : (bytes : List ℕ) (x : Kind × List ℕ) → IsBytes bytes → kind_at bytes ≡ Some x → Takes bytes (kind_text x.0) x.1
 unfolding kind_at
-kind_takes [] x fits e = absurd (none_is_some x e)
+kind_takes [] x fits e = absurd (none-some x e)
 kind_takes (tag ∷ bytes) x fits e = kind_takes_by tag bytes x fits (eqb tag 1) (eqb tag 2) refl refl e
 
 kind_again : (k : Kind) (rest : List ℕ) → width k < 2 ^ 16 → kind_at (kind_text k ++ rest) ≡ Some (k, rest)
@@ -186,13 +182,9 @@ table_takes bytes x fits e =
     subst (λ (y : TableDef × List ℕ). Takes bytes (table_text y.0) y.1 × IsNamed y.0) (some_is made x f.2) (e03, (t0.1, t3.2))
 
 one_key : (columns : List Column) (keys : List ℕ) → has_int_key columns keys ≡ true → keys ≡ slice_index keys 0 ∷ []
-one_key columns [] e = absurd (false_is_true e) where
-  false_is_true : false ≡ true → ⊥
-  false_is_true f = cc
+one_key columns [] e = absurd (false≢true e)
 one_key columns (k ∷ []) e = refl
-one_key columns (k ∷ l ∷ keys) e = absurd (false_is_true e) where
-  false_is_true : false ≡ true → ⊥
-  false_is_true f = cc
+one_key columns (k ∷ l ∷ keys) e = absurd (false≢true e)
 
 table_again : (t : TableDef) (rest : List ℕ) → IsNamed t → IsTable t → table_at (table_text t ++ rest) ≡ Some (t, rest)
 unfolding table_at
@@ -214,13 +206,11 @@ record TakesTables (n : ℕ) (before : List TableDef) (bytes : List ℕ) (x : Li
 
 none_of : {A : Type 0} (o : Option A) → is_none o ≡ true → o ≡ None
 none_of None e = refl
-none_of (Some x) e = absurd (false_is_true e) where
-  false_is_true : false ≡ true → ⊥
-  false_is_true f = cc
+none_of (Some x) e = absurd (false≢true e)
 
 let_through : {A : Type 0} (b : Bool) (o : Option A) (y : A) → cond b o None ≡ Some y → (b ≡ true) × (o ≡ Some y)
 let_through true o y e = (refl, e)
-let_through false o y e = absurd (none_is_some y e)
+let_through false o y e = absurd (none-some y e)
 
 tables_take : (n : ℕ) (before : List TableDef) (bytes : List ℕ) (x : List TableDef × List ℕ) → IsBytes bytes → tables_from n before bytes ≡ Some x → TakesTables n before bytes x
 unfolding tables_from

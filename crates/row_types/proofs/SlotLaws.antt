@@ -7,6 +7,7 @@ use Rattle.std.proofs.lemmas.Int.{to_z-of_z, of_z-to_z}
 use Rattle.std.proofs.lemmas.Nat.{le_bytes_2, le_bytes_8, from_le_bytes-to_le_bytes_2, from_le_bytes-to_le_bytes_8}
 use Rattle.std.proofs.lemmas.List.{take_at, drop_at, take-append-drop, length-take, length-drop}
 use Rattle.std.proofs.lemmas.List.Sums.{sum_by-cons}
+use Rattle.std.proofs.lemmas.Option.{none-some}
 use Rattle.row_types.specs.declared.definition.Kind.{Kind}
 use Rattle.row_types.specs.declared.definition.Kind.TheVariants as kind
 use Rattle.row_types.specs.declared.definition.Column.{Column}
@@ -18,7 +19,7 @@ use Rattle.row_types.specs.Slot.{width, widths, slot_len, cell_text, cells_text,
 use Rattle.row_types.specs.Reading.{cell_value, cells_values, slot_value, unless_fault, read_slot, IsUnlessMemory}
 use Rattle.row_types.proofs.Bytes.{IsBytes, IsBytes-drop, IsBytes-take}
 use Rattle.row_types.proofs.Cells.{cell_fault_behind, text_of_no_fault, len_of_no_fault}
-use Rattle.row_types.proofs.ReadingCells.{option_or_neither}
+use Rattle.row_types.proofs.SchemaLaws.{neither}
 use Rattle.row_types.proofs.WritingCells.{length-cell_text, length-cells_text}
 
 -- ---- zeros
@@ -124,7 +125,7 @@ cells_read at (c ∷ columns) bytes none room fits =
     let w-is : w ≡ width c.kind = refl in
     let cell = take w bytes in
     let others = drop w bytes in
-    let both = option_or_neither (cell_fault at c.kind cell) (cells_fault (at + w) columns others) none in
+    let both = neither (cell_fault at c.kind cell) (cells_fault (at + w) columns others) none in
     let sum = widths-cons c columns in
     let cell-len : length cell ≡ w = omega (arith, length-take w bytes, sum) in
     let others-len = length-drop w bytes in
@@ -172,17 +173,14 @@ fault_of_tag b columns bytes = rw ((more_than_one b).0, (more_than_one b).1) ref
 ok_is_err : {A E : Type 0} (x : A) (e : E) → ◌≡◌ {A = Result A E} (Ok x) (Err e) → ⊥
 ok_is_err x e h = cc
 
-none_is_some : {A : Type 0} (x : A) → ◌≡◌ {A = Option A} None (Some x) → ⊥
-none_is_some x e = cc
-
 -- what is read as some row, or as none, had no fault
 ok_read : (fault : Option ℕ) (held read : Option (List Value)) → unless_fault fault held ≡ Ok read → (fault ≡ None) × (held ≡ read)
 ok_read None held read e = (refl, cc)
 ok_read (Some at) held read e = absurd (ok_is_err read (BadSlot at) (sym e))
 
 pub slot_read : (columns : List Column) (slot : List ℕ) (row : List Value) → length slot ≡ slot_len columns → IsBytes slot → read_slot columns slot ≡ Ok (Some row) → IsRowOf columns row × (slot ≡ slot_text columns row)
-slot_read columns [] row len fits e = absurd (none_is_some row (ok_read None None (Some row) e).1)
-slot_read columns (zero ∷ bytes) row len fits e = absurd (none_is_some row (ok_read (first_not_zero 1 bytes) None (Some row) e).1)
+slot_read columns [] row len fits e = absurd (none-some row (ok_read None None (Some row) e).1)
+slot_read columns (zero ∷ bytes) row len fits e = absurd (none-some row (ok_read (first_not_zero 1 bytes) None (Some row) e).1)
 slot_read columns (suc zero ∷ bytes) row len fits e =
     let both = ok_read (cells_fault 1 columns bytes) (Some (cells_values columns bytes)) (Some row) e in
     let same : cells_values columns bytes ≡ row = some_is both.1 in
@@ -214,7 +212,7 @@ empty_read columns [] len e = absurd (omega arith)
 empty_read columns (zero ∷ bytes) len e =
     let both = ok_read (first_not_zero 1 bytes) None None e in
     ap (λ (r : List ℕ). 0 ∷ r) (zeros_of_none 1 bytes both.0) ∙ ap (λ (k : ℕ). replicate k 0) len
-empty_read columns (suc zero ∷ bytes) len e = absurd (none_is_some (cells_values columns bytes) (sym (ok_read (cells_fault 1 columns bytes) (Some (cells_values columns bytes)) None e).1))
+empty_read columns (suc zero ∷ bytes) len e = absurd (none-some (cells_values columns bytes) (sym (ok_read (cells_fault 1 columns bytes) (Some (cells_values columns bytes)) None e).1))
 empty_read columns (suc (suc b) ∷ bytes) len e = absurd (ok_is_err None (BadSlot 0) (sym e ∙ ap (λ (f : Option ℕ). unless_fault f (slot_value columns (suc (suc b) ∷ bytes))) (fault_of_tag b columns bytes)))
 
 -- ---- the clauses of the call

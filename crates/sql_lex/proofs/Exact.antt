@@ -15,11 +15,7 @@ use Rattle.sql_lex.specs.declared.keyword.Keyword.{Keyword}
 use Rattle.sql_lex.specs.declared.token.Sign.{Sign as Mark}
 use Rattle.sql_lex.specs.declared.token.Sign.TheVariants.{Open, Close, Comma, Star, Plus, Minus, Equal, NotEqual, Less, LessEqual, Greater, GreaterEqual}
 use Rattle.sql_lex.proofs.Fronts.{letters_found, found_passes, word_of_keyword, word_of_name, letter_in_word, front_of_word, front_of_number, front_of_literal, front_of_sign}
-use Rattle.sql_lex.proofs.Literals.{FirstFails, is_quote, closing, closes_whole, and_true}
-
-or_false : (a b : Bool) → (a || b) ≡ false → (a ≡ false) × (b ≡ false)
-or_false true b e = absurd (cc)
-or_false false b e = (refl, e)
+use Rattle.sql_lex.proofs.Literals.{FirstFails, is_quote, closing, closes_whole, and_true, or_false}
 
 -- the longest front that passes a test
 record Parted (p : ℕ → Bool) (xs : List ℕ) : Type 0 where

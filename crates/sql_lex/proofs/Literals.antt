@@ -1,5 +1,5 @@
 -- Where a literal ends.
-use Rattle.std.proofs.Common.{◌≡◌, ℕ, ◌+◌, ◌-◌, ◌<◌, Bool, true, false, cond, ◌&&◌, eqb, List, [], ◌∷◌, ◌++◌, length, get_or, take, drop, Option, None, Some, refl, sym, ap, subst, ◌∙◌, arith, append_assoc, length-append}
+use Rattle.std.proofs.Common.{◌≡◌, ℕ, ◌+◌, ◌-◌, ◌<◌, Bool, true, false, cond, ◌&&◌, ◌||◌, eqb, List, [], ◌∷◌, ◌++◌, length, get_or, take, drop, Option, None, Some, refl, sym, ap, subst, ◌∙◌, arith, append_assoc, length-append}
 use Rattle.std.specs.Prelude.{option_map}
 use Rattle.std.specs.List.{list_all}
 use Rattle.std.proofs.lemmas.Bool.Decides.{Decides-eqb}
@@ -22,6 +22,10 @@ is_quote b = eqb b 39
 pub and_true : (a b : Bool) → (a && b) ≡ true → (a ≡ true) × (b ≡ true)
 and_true true b e = (refl, e)
 and_true false b e = absurd (cc)
+
+pub or_false : (a b : Bool) → (a || b) ≡ false → (a ≡ false) × (b ≡ false)
+or_false true b e = absurd (cc)
+or_false false b e = (refl, e)
 
 shift : (o : Option ℕ) (a b c : ℕ) → a + b ≡ c → option_map (λ (n : ℕ). n + b) (option_map (λ (n : ℕ). n + a) o) ≡ option_map (λ (n : ℕ). n + c) o
 shift None a b c e = refl

@@ -3,6 +3,7 @@ use Rattle.std.proofs.Common.{◌≡◌, ℕ, ◌^◌, Bool, true, false, ◌||�
 use Rattle.std.specs.Prelude.{option_and_then, is_some}
 use Rattle.sql_lex.specs.Spelling.{Lexeme, Number}
 use Rattle.sql_lex.specs.Tokens.{Item}
+use Rattle.sql_lex.proofs.Literals.{or_false}
 use Rattle.sql_parse.specs.Phrases.{Phrase, Either}
 use Rattle.sql_parse.specs.Reading.{Left, Read, first_lexeme, either_at}
 use Rattle.sql_parse.proofs.Exact.{lexemes, left, Fails, Opens, Ends, Alike, SameHead, Reads, Faulty, Exact, IsQuiet, alike_same}
@@ -18,10 +19,6 @@ pub record Starts {S : Type 0} (test : Lexeme → Option S) (front : List Item) 
   pub split : front ≡ token ∷ others
   pub value : S
   pub passes : test token.lexeme ≡ Some value
-
-pub or_false : (a b : Bool) → (a || b) ≡ false → (a ≡ false) × (b ≡ false)
-or_false true b e = absurd (cc)
-or_false false b e = (refl, e)
 
 pub none_of : {S : Type 0} (o : Option S) → is_some o ≡ false → o ≡ None
 none_of None e = refl

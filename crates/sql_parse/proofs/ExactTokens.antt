@@ -13,7 +13,8 @@ use Rattle.sql_parse.specs.Phrases.{Phrase, One, Nothing, Then, Either, Repeated
 use Rattle.sql_parse.specs.Grammar.{word, sign, where_true, name_of, IsName, IsSeparated, IsListed, IsEnclosed, IsBehind, Made}
 use Rattle.sql_parse.specs.Reading.{Left, Read, nothing_at, then_at, repeated_at, name_at, word_at, sign_at, separated_at, listed_at, enclosed_at, behind_at, made_at}
 use Rattle.sql_parse.proofs.Exact.{lexemes, Ends, Ends-never, Exact, never, one_exact, nothing_exact, then_exact, parts, IsQuiet}
-use Rattle.sql_parse.proofs.Choices.{Starts, or_false}
+use Rattle.sql_lex.proofs.Literals.{or_false}
+use Rattle.sql_parse.proofs.Choices.{Starts}
 use Rattle.sql_parse.proofs.Repetition.{repeated_exact, ends_behind}
 
 pub quiet_sign : (mark : Mark) → IsQuiet (sign mark)

@@ -2,14 +2,11 @@
 use Rattle.std.proofs.Common.{◌≡◌, ℕ, ◌+◌, ◌<◌, ◌≤◌, Bool, true, false, not, cond, eqb, List, [], ◌∷◌, ◌++◌, length, get_or, take, drop, refl, sym, ap, ◌∙◌, arith}
 use Rattle.std.specs.List.{prefix_len}
 use Rattle.std.proofs.lemmas.List.Sums.{prefix_len_stops}
+use Rattle.std.proofs.lemmas.Bool.{not-false}
 use Rattle.std.proofs.Math.Numerals.{one-add, add-one}
 use Rattle.std.proofs.lemmas.Bool.Decides.{Decides-eqb}
 use Rattle.sql_lex.specs.Spelling.{doubled}
 use Rattle.sql_parse.specs.Quotes.{unquoted, behind_quote}
-
-not_false : (b : Bool) → not b ≡ false → b ≡ true
-not_false true e = refl
-not_false false e = absurd (cc)
 
 abbrev plain : ℕ → Bool
 plain b = not (eqb b 39)
@@ -56,7 +53,7 @@ nonempty (x ∷ xs) e = omega arith
 pub quote_found : (xs : List ℕ) (n : ℕ) → n ≡ prefix_len (λ (b : ℕ). not (eqb b 39)) xs → n < length xs → get_or xs n 0 ≡ 39
 quote_found xs n is inside =
     let stops = prefix_len_stops plain xs 0 (omega (arith, is)) in
-    ap (λ m. get_or xs m 0) is ∙ (Decides-eqb _ 39).0 (not_false _ stops)
+    ap (λ m. get_or xs m 0) is ∙ (Decides-eqb _ 39).0 (not-false _ stops)
 
 -- a text with each quote in it twice is read as that text
 pub unquoted_doubled : (text : List ℕ) → unquoted (doubled text) ≡ text

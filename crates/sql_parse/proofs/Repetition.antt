@@ -7,7 +7,8 @@ use Rattle.sql_lex.specs.Tokens.{Item}
 use Rattle.sql_parse.specs.Phrases.{Phrase, One, Then, Repeated}
 use Rattle.sql_parse.specs.Reading.{Left, Read, ◌>>=◌, repeated_step, repeated_from, repeated_at}
 use Rattle.sql_parse.proofs.Exact.{lexemes, left, Fails, Opens, Ends, SameHead, Reads, Faulty, Exact, IsQuiet, alike_same, head_behind, head_token, parts, ok_pair, ok_no_err, err_no_ok, same_err}
-use Rattle.sql_parse.proofs.Choices.{next, next_same, or_false, none_of}
+use Rattle.sql_lex.proofs.Literals.{or_false}
+use Rattle.sql_parse.proofs.Choices.{next, next_same, none_of}
 
 module _ {S X Z : Type 0} (test : Lexeme → Option S) (join : S → X → Z) (p : Left → Read X) where
   abbrev more : Z → List Z × Left → Read (List Z)

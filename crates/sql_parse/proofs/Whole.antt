@@ -87,7 +87,7 @@ module _ {X : Type 0} (N : Phrase X) (p : Left → Read X) (g : Lexeme → Bool)
       let front = great.front ++ great.minus ∷ [] in
       let is : lexemes front ≡ lexemes great.front ++ great.minus.lexeme ∷ [] = map-append (λ (i : Item). i.lexeme) great.front (great.minus ∷ []) in
       let open_is : lexemes front ++ Number (2 ^ 63) ∷ [] ≡ lexemes great.front ++ great.minus.lexeme ∷ Number (2 ^ 63) ∷ [] = ap (λ (l : List Lexeme). l ++ Number (2 ^ 63) ∷ []) is ∙ append_assoc (lexemes great.front) (great.minus.lexeme ∷ []) (Number (2 ^ 63) ∷ []) in
-      let opens : BeginsPhrase N (lexemes front ++ Number (2 ^ 63) ∷ []) = subst BeginsPhrase N (sym open_is) great.opens in
+      let opens : BeginsPhrase N (lexemes front ++ Number (2 ^ 63) ∷ []) = subst (BeginsPhrase N) (sym open_is) great.opens in
       record {
         front = great.front;
         minus = great.minus;

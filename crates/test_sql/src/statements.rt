@@ -63,8 +63,9 @@ fn each_alternative_is_read(rt: HostRuntime) -> Result<(), Fail> {
     Ok(())
 }
 
-fn shown(alloc: Global, text: &str) -> Result<String, Fail> {
-    if text.len() > 100 {
+/// The statement that a text is, as `Debug` shows it: all that was read.
+pub(crate) fn shown(alloc: Global, text: &str) -> Result<String, Fail> {
+    if text.len() > 1 << 30 {
         return Err(Fail::from("too long"));
     }
     let Ok(statement) = parse(alloc, text, 7) else {

@@ -1,5 +1,5 @@
 // What no clause says: that with ample memory the tokens come, and where.
-use sql_lex::{ScanEnd, Keyword, LexFault, Sign, TokenKind, lex, scan_tokens};
+use sql_lex::{Keyword, LexFault, ScanEnd, Sign, TokenKind, lex, scan_tokens};
 use std::test::Fail;
 
 #[test]
