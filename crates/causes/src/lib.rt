@@ -1,15 +1,15 @@
-//! The two answers that every layer shares: an object outside failed, and memory ran out.
+//! The two errors that every layer shares: an object outside failed, and memory ran out.
 #![tactic(auto)]
 
 use std::alloc::{AllocError, AllocFailed};
 use thiserror::Error;
 
-/// A source, a sink or a disk failed. Its count of faults rose in the call that answers this.
+/// A source, a sink or a disk failed. Its count of faults rose in the call that returns this.
 #[derive(Clone, Copy, Debug, PartialEq, Eq, Error)]
 #[error("the device failed")]
 pub struct Failed;
 
-/// No memory was found. The one answer that no contract ties to a cause.
+/// No memory was found. The one error that no contract ties to a cause.
 #[derive(Clone, Copy, Debug, PartialEq, Eq, Error)]
 #[error("out of memory")]
 pub struct OutOfMemory;

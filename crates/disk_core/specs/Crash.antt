@@ -24,19 +24,12 @@ NoneNew old new = (image : List ℕ) → new image → old image
 abbrev pub Only : List ℕ → (List ℕ → Type 0) → Type 0
 Only bytes may_leave = (image : List ℕ) → may_leave image → image ≡ bytes
 
--- nothing is pending: where the disk tells its bytes, a crash leaves what a read gives
+-- nothing is pending: where the content is known, a crash leaves what a read gives
 abbrev pub NothingPending : Option (List ℕ) → (List ℕ → Type 0) → Type 0
 NothingPending content may_leave = ForSome content (λ bytes. Only bytes may_leave)
 
 -- Time goes on: a crash since a moment might have left what it might have left before, or what it may leave now.
-pub record Elapses (before now : ℕ) (past since : ℕ → List ℕ → Type 0) (may_leave : List ℕ → Type 0) : Type 0 where
-  pub later : before ≤ now
-  pub nothing_else : (t : ℕ) (image : List ℕ) → t ≤ before → since t image → past t image ⊎ may_leave image
-  pub keeps : (t : ℕ) (image : List ℕ) → t ≤ before → past t image → since t image
-
--- A crash at any moment since old leaves an image that has P.
-pub record LeavesOnly {D : Type 0} (moment : D → ℕ) (left_since : D → ℕ → List ℕ → Type 0) (old new : D) (P : List ℕ → Type 0) : Type 0 where
-  pub later : moment old ≤ moment new
-  pub each : (image : List ℕ) → left_since new (moment old) image → P image
-  -- for a run that began earlier
-  pub before : (t : ℕ) (image : List ℕ) → t ≤ moment old → left_since new t image → left_since old t image ⊎ P image
+pub record Elapses (old new : ℕ) (left_old left_new : ℕ → List ℕ → Type 0) (may_leave : List ℕ → Type 0) : Type 0 where
+  pub later : old ≤ new
+  pub nothing_else : (t : ℕ) (image : List ℕ) → t ≤ old → left_new t image → left_old t image ⊎ may_leave image
+  pub keeps : (t : ℕ) (image : List ℕ) → t ≤ old → left_old t image → left_new t image

@@ -1,4 +1,4 @@
--- What the calls on a disk that tells its bytes do to them.
+-- What the calls on a disk whose content is known do to it.
 use Rattle.std.specs.Prelude.{◌≡◌, ℕ, ◌+◌, ◌≤◌, max, List, ◌++◌, length, take, drop, Option, None, MatchOption, IfSome, IsSomeAnd, Result, Ok, Err, IfOk, OnOk}
 use Rattle.std.specs.Option.{option_map}
 
@@ -15,13 +15,13 @@ pub record Torn (at n : ℕ) (old new : List ℕ) : Type 0 where
 
 -- what a write does: Ok has written all bytes, Err may have written any of the range
 abbrev pub Writes : {T E : Type 0} → Option (List ℕ) → ℕ → List ℕ → Result T E → Option (List ℕ) → Type 0
-Writes before at bytes (Ok _) after = after ≡ option_map (written at bytes) before
-Writes before at bytes (Err _) after = MatchOption before (after ≡ None) (λ old. IsSomeAnd after (Torn at (length bytes) old))
+Writes old at bytes (Ok _) new = new ≡ option_map (written at bytes) old
+Writes old at bytes (Err _) new = MatchOption old (new ≡ None) (λ content. IsSomeAnd new (Torn at (length bytes) content))
 
 -- what a read into a piece gives: at Ok the bytes from that place on
 abbrev pub Reads : {T E : Type 0} → Option (List ℕ) → ℕ → Result T E → List ℕ → Type 0
 Reads content at result piece = OnOk result (IfSome content (λ bytes. piece ≡ take (length piece) (drop at bytes)))
 
--- what a question for the size answers: at Ok how many bytes there are
+-- what a question for the size gives: at Ok how many bytes there are
 abbrev pub Measures : {E : Type 0} → Option (List ℕ) → Result ℕ E → Type 0
 Measures content result = IfOk result (λ n. IfSome content (λ bytes. n ≡ length bytes))

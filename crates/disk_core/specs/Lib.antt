@@ -6,4 +6,5 @@ pub mod History
 pub mod HistoryLaws
 pub mod HistoryView
 pub mod Memory
+pub mod Moments
 pub mod Places

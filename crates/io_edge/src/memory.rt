@@ -1,5 +1,5 @@
-// Sources and sinks in memory, which tell their content and fail at the calls that they are told to.
-ghost use Rattle.std.specs.Prelude.{◌≡◌, ◌⊎◌, ◌↔◌, ◌+◌, ◌<◌, ◌≤◌, [], length, drop, min, Contains, IsErr, IfOk, OnOk, OnErr, vec_capacity};
+// Sources and sinks in memory, whose content is known. They fail at the calls that are named.
+ghost use Rattle.std.specs.Prelude.{◌≡◌, ◌⊎◌, ◌↔◌, ◌+◌, ◌<◌, ◌≤◌, [], false, length, drop, is_err, min, Contains, IsErr, IfOk, OnErr, vec_capacity};
 ghost use Rattle.causes.specs.Causes.{HasCause, one_more};
 ghost use Rattle.io_edge.specs.Content.{Pulls};
 ghost use Rattle.io_edge.specs.Pushing.{Pushes};
@@ -15,6 +15,7 @@ pub struct MemSource {
     pulls: u64,
     fail: Vec<u64>,
     faults: u64,
+    failed: bool,
 }
 
 impl Model for MemSource {
@@ -28,19 +29,21 @@ impl Model for MemSource {
       pulls = s.pulls;
       fail = s.fail.items;
       faults = s.faults;
+      failed = s.failed;
     } };
 
     ghost invariant = { λ s. s.at ≤ vec_len s.bytes };
 }
 
 impl MemSource {
-    /// Gives `bytes`. The calls that `fail` names, the first one being 1, answer `Failed`.
+    /// Gives `bytes`. The calls that `fail` names, the first one being 1, return `Failed`.
     pub fn new(bytes: Vec<u8>, fail: Vec<u64>) -> MemSource
         ensures { result ≡ record {
           content = record { given = []; left = bytes.items };
           pulls = 0;
           fail = fail.items;
           faults = 0;
+          failed = false;
         } }
     {
         MemSource {
@@ -49,6 +52,7 @@ impl MemSource {
             pulls: 0,
             fail,
             faults: 0,
+            failed: false,
         }
     }
 }
@@ -60,10 +64,14 @@ impl Source for MemSource {
 
     ghost faults = { λ s. s.faults };
 
+    ghost failed = { λ s. s.failed };
+
     fn pull(&mut self, into: &mut [u8]) -> Result<usize, Failed>
+        // As of every source.
         ensures bound { IfOk result (λ n. n ≤ length into.new) }
         ensures gives { Pulls (Some self.old.content) result into.new (Some self.new.content) }
         ensures cause { HasCause self.old.faults self.new.faults result }
+        ensures failed { self.new.failed ≡ is_err result }
 
         // It fails exactly at the calls that are named, and gives as much as fits.
         ensures named { IsErr result ↔ Contains self.old.fail (one_more self.old.pulls) }
@@ -74,11 +82,10 @@ impl Source for MemSource {
         ensures nothing { OnErr result (into.new ≡ into.old) }
 
         ensures counted { (self.new.pulls ≡ one_more self.old.pulls) × (self.new.fail ≡ self.old.fail) }
-        ensures faults { OnOk result (self.new.faults ≡ self.old.faults) }
-        ensures fault { OnErr result (self.new.faults ≡ one_more self.old.faults) }
     {
         self.pulls = self.pulls.saturating_add(1);
-        if self.fail.contains(&self.pulls) {
+        self.failed = self.fail.contains(&self.pulls);
+        if self.failed {
             self.faults = self.faults.saturating_add(1);
             return Err(Failed);
         }
@@ -117,7 +124,8 @@ impl Model for MemSink {
 }
 
 impl MemSink {
-    /// Has no room: a push of one byte is a fault. The calls that `fail` names, the first one being 1, answer `Failed`.
+    /// Has no room: a push of one byte is a fault. The calls that `fail` names, the first one being 1, return
+    /// `Failed`.
     pub fn new(fail: Vec<u64>) -> MemSink
         ensures { result ≡ record { taken = []; room = 0; pushes = 0; fail = fail.items; faults = 0 } }
     {
@@ -127,7 +135,13 @@ impl MemSink {
 
     /// Keeps at most as many bytes as `room` has capacity for, in place of those that it holds.
     pub fn with_room(room: Vec<u8>, fail: Vec<u64>) -> MemSink
-        ensures { result ≡ record { taken = []; room = vec_capacity room; pushes = 0; fail = fail.items; faults = 0 } }
+        ensures { result ≡ record {
+          taken = [];
+          room = vec_capacity room;
+          pushes = 0;
+          fail = fail.items;
+          faults = 0;
+        } }
     {
         let mut taken = room;
         taken.clear();
@@ -156,16 +170,16 @@ impl Sink for MemSink {
     ghost faults = { λ s. s.faults };
 
     fn push(&mut self, bytes: &[u8]) -> Result<(), Failed>
+        // As of every sink.
         ensures takes { Pushes (Some self.old.taken) bytes.now result (Some self.new.taken) }
         ensures cause { HasCause self.old.faults self.new.faults result }
 
         // It fails exactly at the calls that are named and where the bytes don't fit, and then takes nothing.
-        ensures named { IsErr result ↔ Contains self.old.fail (one_more self.old.pushes) ⊎ (self.old.room < length self.old.taken + length bytes.now) }
+        ensures named { IsErr result ↔ Contains self.old.fail (one_more self.old.pushes)
+            ⊎ (self.old.room < length self.old.taken + length bytes.now) }
         ensures nothing { OnErr result (self.new.taken ≡ self.old.taken) }
         ensures counted { (self.new.pushes ≡ one_more self.old.pushes) × (self.new.fail ≡ self.old.fail) }
         ensures room { self.new.room ≡ self.old.room }
-        ensures faults { OnOk result (self.new.faults ≡ self.old.faults) }
-        ensures fault { OnErr result (self.new.faults ≡ one_more self.old.faults) }
     {
         self.pushes = self.pushes.saturating_add(1);
         let left = self.room - self.taken.len();

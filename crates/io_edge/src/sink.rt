@@ -6,7 +6,7 @@ use crate::Failed;
 
 /// Where a program writes to.
 pub trait Sink {
-    /// The bytes that it took, where it tells them. Standard output doesn't.
+    /// The bytes that it took, where they are known. Those of standard output aren't.
     ghost taken: { Self → Option (List ℕ) };
 
     /// How many calls have failed. The count stands still at `u64::MAX`.

@@ -1,36 +1,42 @@
-// Standard input and output. They tell no bytes, and count their faults.
-ghost use Rattle.std.specs.Prelude.{◌≡◌, ◌≤◌, None, length, IfOk, OnOk, OnErr};
-ghost use Rattle.causes.specs.Causes.{HasCause, one_more};
+// Standard input and output. Their content isn't known, and they count their faults.
+ghost use Rattle.std.specs.Prelude.{◌≡◌, ◌≤◌, None, false, is_err, length, IfOk};
+ghost use Rattle.causes.specs.Causes.{HasCause};
 
 use crate::{Failed, Sink, Source};
 use std::io::{ErrorKind, Read, Stdin, Stdout, Write};
 use std::marker::Model;
 
-/// Standard input, seen as how many of its calls have failed. A read that a signal interrupts is made again.
+/// Standard input, seen as how many of its calls have failed and whether the latest did. A read that a signal
+/// interrupts is made again.
 #[derive(Drop)]
 pub struct StdSource {
     input: Stdin,
     faults: u64,
+    failed: bool,
 }
 
 impl Model for StdSource {
-    ghost use Rattle.std.specs.Prelude.{ℕ};
+    ghost use Rattle.io_edge.specs.Named.{InputView};
 
-    ghost Value = { ℕ };
+    ghost Value = { InputView };
 
-    ghost view = { λ s. s.faults };
+    ghost view = { λ s. record { faults = s.faults; failed = s.failed } };
 }
 
 impl StdSource {
     pub fn new(input: Stdin) -> StdSource
-        ensures { result ≡ 0 }
+        ensures { result ≡ record { faults = 0; failed = false } }
     {
-        StdSource { input, faults: 0 }
+        StdSource {
+            input,
+            faults: 0,
+            failed: false,
+        }
     }
 }
 
-/// Standard output, seen as how many of its calls have failed. A write that a signal interrupts, or that takes a part, is
-/// gone on with.
+/// Standard output, seen as how many of its calls have failed. A write that a signal interrupts, or that takes a part,
+/// is continued.
 #[derive(Drop)]
 pub struct StdSink {
     output: Stdout,
@@ -56,18 +62,18 @@ impl StdSink {
 impl Source for StdSource {
     ghost content = { λ _. None };
 
-    ghost faults = { λ failed. failed };
+    ghost faults = { λ s. s.faults };
+
+    ghost failed = { λ s. s.failed };
 
     fn pull(&mut self, into: &mut [u8]) -> Result<usize, Failed>
         ensures bound { IfOk result (λ n. n ≤ length into.new) }
-        ensures cause { HasCause self.old self.new result }
-
-        // Each fault is counted once, and nothing else is.
-        ensures faults { OnOk result (self.new ≡ self.old) }
-        ensures fault { OnErr result (self.new ≡ one_more self.old) }
+        ensures cause { HasCause self.old.faults self.new.faults result }
+        ensures failed { self.new.failed ≡ is_err result }
     {
         let pulled = read_some(self.input, into);
-        if pulled.is_err() {
+        self.failed = pulled.is_err();
+        if self.failed {
             self.faults = self.faults.saturating_add(1);
         }
         pulled
@@ -94,10 +100,6 @@ impl Sink for StdSink {
 
     fn push(&mut self, bytes: &[u8]) -> Result<(), Failed>
         ensures cause { HasCause self.old self.new result }
-
-        // Each fault is counted once, and nothing else is.
-        ensures faults { OnOk result (self.new ≡ self.old) }
-        ensures fault { OnErr result (self.new ≡ one_more self.old) }
     {
         let pushed = write_all(self.output, bytes);
         if pushed.is_err() {

@@ -1,5 +1,6 @@
 -- What a crash leaves of a lane file.
-use Rattle.std.specs.Prelude.{◌⊎◌, ℕ, List, [], ◌∷◌, ◌++◌, Option, IsSome}
+use Rattle.std.specs.Prelude.{◌⊎◌, ℕ, List, [], ◌∷◌, ◌++◌}
+use Rattle.disk_core.specs.declared.disk.Disk.{Ghosts}
 use Rattle.disk_core.specs.Crash.{Tears}
 use Rattle.lane_format.specs.Lane.{IsLane, IsNotOpen}
 
@@ -12,14 +13,9 @@ abbrev pub NotOpenOrEmpty : ℕ → ℕ → List ℕ → Type 0
 NotOpenOrEmpty generation lane bytes = IsNotOpen bytes ⊎ IsLane generation lane [] bytes
 
 -- what a crash might have left of the disk, or a file that isn't open
-abbrev pub OldOrNotOpen : {D : Type 0} → (D → List ℕ → Type 0) → D → List ℕ → Type 0
-OldOrNotOpen may_leave disk bytes = may_leave disk bytes ⊎ IsNotOpen bytes
+abbrev pub OldOrNotOpen : {D : Type 0} → Ghosts D → D → List ℕ → Type 0
+OldOrNotOpen d disk bytes = d.may_leave disk bytes ⊎ IsNotOpen bytes
 
 -- what a crash leaves of a write to a disk of which it might have left these images
 abbrev pub TornFrom : (List ℕ → Type 0) → ℕ → List ℕ → List ℕ → Type 0
 TornFrom may_leave at written image = (before : List ℕ) × may_leave before × Tears at written before image
-
--- The disk tells its bytes, and every crash now leaves a file that has P.
-pub record LeavesNow {D : Type 0} (content : D → Option (List ℕ)) (may_leave : D → List ℕ → Type 0) (disk : D) (P : List ℕ → Type 0) : Type 0 where
-  pub told : IsSome (content disk)
-  pub each : (image : List ℕ) → may_leave disk image → P image

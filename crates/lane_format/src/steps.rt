@@ -4,9 +4,10 @@ ghost use Rattle.std.specs.Prelude.{◌≡◌, ◌<◌, ◌≤◌, ◌^◌, ◌+
 ghost use Rattle.std.specs.Option.{ForSome, option_map};
 ghost use Rattle.std.specs.Int.{w16, w64, to_le_bytes};
 ghost use Rattle.causes.specs.Causes.{HasCause};
-ghost use Rattle.disk_core.specs.Crash.{Follows, LeavesOnly, NothingPending, Tears};
+ghost use Rattle.disk_core.specs.Crash.{Follows, NothingPending, Tears};
 ghost use Rattle.disk_core.specs.Device.{written};
-ghost use Rattle.lane_format.specs.Crash.{LeavesNow, NotOpenOrEmpty, OldOrNotOpen, TornFrom, WithOrWithout};
+ghost use Rattle.disk_core.specs.Moments.{LeavesNow, LeavesOnly};
+ghost use Rattle.lane_format.specs.Crash.{NotOpenOrEmpty, OldOrNotOpen, TornFrom, WithOrWithout};
 ghost use Rattle.lane_format.specs.Lane.{IsLane, IsNotOpen, emptied, extended, frame_text, lane_text, shut};
 
 use disk_core::{Disk, Failed};
@@ -25,7 +26,7 @@ fn put<D: Disk>(disk: &mut D, at: u64, bytes: &[u8]) -> Result<(), Failed>
     ensures told { IsSome (D.content disk.old) → IsSome (D.content disk.new) }
     ensures durable { OnOk result (NothingPending (D.content disk.new) (D.may_leave disk.new)) }
     ensures crash { Follows (Tears at bytes.now) (D.may_leave disk.old) (D.may_leave disk.new) }
-    ensures moments { LeavesOnly D.moment D.left_since disk.old disk.new (TornFrom (D.may_leave disk.old) at bytes.now) }
+    ensures moments { LeavesOnly D.Disk disk.old disk.new (TornFrom (D.may_leave disk.old) at bytes.now) }
     ensures cause { HasCause (D.faults disk.old) (D.faults disk.new) result }
 {
     disk.write_at(at, bytes)?;
@@ -37,7 +38,7 @@ pub(crate) fn close<D: Disk>(disk: &mut D) -> Result<(), Failed>
     ensures shut { OnOk result (D.content disk.new ≡ option_map shut (D.content disk.old)) }
     ensures told { IsSome (D.content disk.old) → IsSome (D.content disk.new) }
     ensures durable { OnOk result (NothingPending (D.content disk.new) (D.may_leave disk.new)) }
-    ensures moments { LeavesOnly D.moment D.left_since disk.old disk.new (OldOrNotOpen D.may_leave disk.old) }
+    ensures moments { LeavesOnly D.Disk disk.old disk.new (OldOrNotOpen D.Disk disk.old) }
     ensures cause { HasCause (D.faults disk.old) (D.faults disk.new) result }
 {
     put(disk, 0, &[CLOSED])
@@ -49,8 +50,8 @@ pub(crate) fn reset<D: Disk>(disk: &mut D, generation: u64, lane: u16) -> Result
     ensures empty { OnOk result (D.content disk.new ≡ option_map (emptied generation lane) (D.content disk.old)) }
     ensures told { IsSome (D.content disk.old) → IsSome (D.content disk.new) }
     ensures durable { OnOk result (NothingPending (D.content disk.new) (D.may_leave disk.new)) }
-    ensures moments { LeavesNow D.content D.may_leave disk.old IsNotOpen
-        → LeavesOnly D.moment D.left_since disk.old disk.new (NotOpenOrEmpty generation lane) }
+    ensures moments { LeavesNow D.Disk disk.old IsNotOpen
+        → LeavesOnly D.Disk disk.old disk.new (NotOpenOrEmpty generation lane) }
     ensures cause { HasCause (D.faults disk.old) (D.faults disk.new) result }
 {
     put(disk, 1, &header(generation, lane))?;
@@ -75,8 +76,8 @@ pub(crate) fn append<D: Disk>(disk: &mut D, gate: u64, frame: &[u8]) -> Result<(
     ensures durable { OnOk result (NothingPending (D.content disk.new) (D.may_leave disk.new)) }
     ensures moments { (generation lane : ℕ) (bodies : List (List ℕ)) (body : List ℕ)
         → gate ≡ length (lane_text generation lane bodies) → frame.now ≡ frame_text body
-        → LeavesNow D.content D.may_leave disk.old (IsLane generation lane bodies)
-        → LeavesOnly D.moment D.left_since disk.old disk.new (WithOrWithout generation lane bodies body) }
+        → LeavesNow D.Disk disk.old (IsLane generation lane bodies)
+        → LeavesOnly D.Disk disk.old disk.new (WithOrWithout generation lane bodies body) }
     ensures cause { HasCause (D.faults disk.old) (D.faults disk.new) result }
 {
     put(disk, gate + 1, frame)?;

@@ -28,7 +28,7 @@ pub enum Stage {
 
 /// Appends batches to the log file of a lane, the one of even generations. It takes no memory.
 ///
-/// After a call that met a disk fault each later one answers `Closed` with that file and changes nothing.
+/// After a call that met a disk fault each later one returns `Closed` with that file and changes nothing.
 pub struct LaneWriter<D> {
     disk: D,
     lane: u16,
@@ -36,11 +36,12 @@ pub struct LaneWriter<D> {
 }
 
 impl<D: Disk> LaneWriter<D> {
-    ghost use Rattle.std.specs.Prelude.{◌≡◌, ◌⊎◌, ◌+◌, ◌%◌, ◌≤◌, ◌^◌, ◌++◌, [], ◌∷◌, ℕ, List, length, IsOk, IsSome, OnOk, OnErr, MatchResult};
+    ghost use Rattle.std.specs.Prelude.{◌≡◌, ◌⊎◌, ◌+◌, ◌%◌, ◌≤◌, ◌^◌, ◌++◌, [], ◌∷◌, ℕ, List, length};
+    ghost use Rattle.std.specs.Prelude.{IsOk, IsSome, OnOk, OnErr, MatchResult};
     ghost use Rattle.disk_core.specs.declared.store.FileName.{FileName};
     ghost use Rattle.std.specs.Option.{ForSome, option_map};
-    ghost use Rattle.disk_core.specs.Crash.{LeavesOnly};
-    ghost use Rattle.lane_format.specs.Crash.{LeavesNow, NotOpenOrEmpty, OldOrNotOpen, WithOrWithout};
+    ghost use Rattle.disk_core.specs.Moments.{LeavesNow, LeavesOnly};
+    ghost use Rattle.lane_format.specs.Crash.{NotOpenOrEmpty, OldOrNotOpen, WithOrWithout};
     ghost use Rattle.lane_format.specs.Lane.{IsLane, IsNotOpen, body_of, lane_text, shut};
     ghost use Rattle.lane_format.specs.Writer.{Holds, IsFailed, IsNear, IsSettled, IsShut, KeepsFault, even_file, disk_of, lane_of, stage_of};
 
@@ -69,7 +70,8 @@ impl<D: Disk> LaneWriter<D> {
 
         // Where every crash now leaves that lane, the writer is settled.
         ensures settled { (bodies : List (List ℕ)) → gate ≡ length (lane_text generation lane bodies)
-            → LeavesNow D.content D.may_leave disk (IsLane generation lane bodies) → IsSettled D.content D.may_leave result generation bodies }
+            → LeavesNow D.Disk disk (IsLane generation lane bodies)
+            → IsSettled D.Disk result generation bodies }
     {
         LaneWriter {
             disk,
@@ -93,35 +95,49 @@ impl<D: Disk> LaneWriter<D> {
     /// Closes the file, for a lane of this generation: its gate isn't open then.
     pub fn close(&mut self, generation: u64) -> Result<(), LaneFault>
         requires even { generation % 2 ≡ 0 }
-        ensures shut { OnOk result (IsShut D.content self.new generation) }
-        ensures content { OnOk result (D.content (disk_of self.new) ≡ option_map shut (D.content (disk_of self.old))) }
-        ensures fault { KeepsFault D.faults self.old self.new result }
 
-        // A crash at any moment of the call, or after it, leaves what it might have left before, or a file that isn't open.
-        ensures moments { LeavesOnly D.moment D.left_since (disk_of self.old) (disk_of self.new) (OldOrNotOpen D.may_leave (disk_of self.old)) }
-        ensures crash { IsSome (D.content (disk_of self.old)) → LeavesNow D.content D.may_leave (disk_of self.new) (OldOrNotOpen D.may_leave (disk_of self.old)) }
-        ensures durable { OnOk result (IsSome (D.content (disk_of self.old)) → LeavesNow D.content D.may_leave (disk_of self.new) IsNotOpen) }
+        // What the file holds after it.
+        ensures shut { OnOk result (IsShut D.Disk self.new generation) }
+        ensures content { OnOk result
+            (D.content (disk_of self.new) ≡ option_map shut (D.content (disk_of self.old))) }
+
+        ensures fault { KeepsFault D.Disk self.old self.new result }
+
+        // A crash at any moment of the call, or after it, leaves what it might have left before, or a file that
+        // isn't open.
+        ensures moments { LeavesOnly D.Disk (disk_of self.old) (disk_of self.new)
+            (OldOrNotOpen D.Disk (disk_of self.old)) }
+        ensures crash { IsSome (D.content (disk_of self.old))
+            → LeavesNow D.Disk (disk_of self.new) (OldOrNotOpen D.Disk (disk_of self.old)) }
+        ensures durable { OnOk result (IsSome (D.content (disk_of self.old))
+            → LeavesNow D.Disk (disk_of self.new) IsNotOpen) }
     {
         self.live()?;
         let done = steps::close(&mut self.disk);
         self.finish(done, Stage::Shut { generation })
     }
 
-    /// Makes the file an open lane of this generation with no batch. It comes right after `close` for that generation.
+    /// Makes the file an open lane of this generation with no batch. It comes right after `close` for that
+    /// generation.
     pub fn reset(&mut self, generation: u64) -> Result<(), LaneFault>
         requires some { 1 ≤ generation }
         requires even { generation % 2 ≡ 0 }
-        requires shut { IsShut D.content self.old generation ⊎ IsFailed self.old }
-        ensures empty { OnOk result (Holds D.content self.new generation []) }
+        requires shut { IsShut D.Disk self.old generation ⊎ IsFailed self.old }
+
+        // What the file holds after it.
+        ensures empty { OnOk result (Holds D.Disk self.new generation []) }
         ensures stage { OnOk result (stage_of self.new ≡ Stage.Open generation 11) }
-        ensures fault { KeepsFault D.faults self.old self.new result }
+
+        ensures fault { KeepsFault D.Disk self.old self.new result }
 
         // A crash at any moment of the call, or after it, leaves a file that isn't open, or the empty lane.
-        ensures moments { LeavesNow D.content D.may_leave (disk_of self.old) IsNotOpen
-            → LeavesOnly D.moment D.left_since (disk_of self.old) (disk_of self.new) (NotOpenOrEmpty generation (lane_of self.old)) }
-        ensures crash { LeavesNow D.content D.may_leave (disk_of self.old) IsNotOpen
-            → LeavesNow D.content D.may_leave (disk_of self.new) (NotOpenOrEmpty generation (lane_of self.old)) }
-        ensures durable { OnOk result (IsSome (D.content (disk_of self.old)) → IsSettled D.content D.may_leave self.new generation []) }
+        ensures moments { LeavesNow D.Disk (disk_of self.old) IsNotOpen
+            → LeavesOnly D.Disk (disk_of self.old) (disk_of self.new)
+            (NotOpenOrEmpty generation (lane_of self.old)) }
+        ensures crash { LeavesNow D.Disk (disk_of self.old) IsNotOpen
+            → LeavesNow D.Disk (disk_of self.new) (NotOpenOrEmpty generation (lane_of self.old)) }
+        ensures durable { OnOk result (IsSome (D.content (disk_of self.old))
+            → IsSettled D.Disk self.new generation []) }
     {
         self.live()?;
         let done = steps::reset(&mut self.disk, generation, self.lane);
@@ -133,25 +149,34 @@ impl<D: Disk> LaneWriter<D> {
     }
 
     /// Appends one batch, and brings it to where a crash leaves it. Its body is the frame without its first four
-    /// bytes, which this call fills with the body's length, and without its last one, which it fills with a closed gate.
+    /// bytes, which this call fills with the body's length, and without its last one, which it fills with a closed
+    /// gate.
     pub fn force(&mut self, frame: &mut [u8]) -> Result<(), LaneFault>
-        requires open { ((generation : ℕ) × (bodies : List (List ℕ)) × Holds D.content self.old generation bodies) ⊎ IsFailed self.old }
+        requires open { ((generation : ℕ) × (bodies : List (List ℕ)) × Holds D.Disk self.old generation bodies)
+            ⊎ IsFailed self.old }
         requires near { IsNear self.old }
         requires room { 6 ≤ length frame.old }
         requires short { length frame.old ≤ 2 ^ 31 }
-        ensures appended { OnOk result ((generation : ℕ) (bodies : List (List ℕ)) → Holds D.content self.old generation bodies
-            → Holds D.content self.new generation (bodies ++ body_of frame.old ∷ [])) }
+
+        // What the file holds after it.
+        ensures appended { OnOk result ((generation : ℕ) (bodies : List (List ℕ))
+            → Holds D.Disk self.old generation bodies
+            → Holds D.Disk self.new generation (bodies ++ body_of frame.old ∷ [])) }
         ensures stage { OnOk result ((generation gate : ℕ) → stage_of self.old ≡ Stage.Open generation gate
             → stage_of self.new ≡ Stage.Open generation (gate + length frame.old)) }
-        ensures fault { KeepsFault D.faults self.old self.new result }
+
+        ensures fault { KeepsFault D.Disk self.old self.new result }
 
         // A crash at any moment of the call, or after it, leaves the batches from before, with this one or without.
-        ensures moments { (generation : ℕ) (bodies : List (List ℕ)) → IsSettled D.content D.may_leave self.old generation bodies
-            → LeavesOnly D.moment D.left_since (disk_of self.old) (disk_of self.new) (WithOrWithout generation (lane_of self.old) bodies (body_of frame.old)) }
-        ensures crash { (generation : ℕ) (bodies : List (List ℕ)) → IsSettled D.content D.may_leave self.old generation bodies
-            → LeavesNow D.content D.may_leave (disk_of self.new) (WithOrWithout generation (lane_of self.old) bodies (body_of frame.old)) }
-        ensures durable { OnOk result ((generation : ℕ) (bodies : List (List ℕ)) → IsSettled D.content D.may_leave self.old generation bodies
-            → IsSettled D.content D.may_leave self.new generation (bodies ++ body_of frame.old ∷ [])) }
+        ensures moments { (generation : ℕ) (bodies : List (List ℕ)) → IsSettled D.Disk self.old generation bodies
+            → LeavesOnly D.Disk (disk_of self.old) (disk_of self.new)
+            (WithOrWithout generation (lane_of self.old) bodies (body_of frame.old)) }
+        ensures crash { (generation : ℕ) (bodies : List (List ℕ)) → IsSettled D.Disk self.old generation bodies
+            → LeavesNow D.Disk (disk_of self.new)
+            (WithOrWithout generation (lane_of self.old) bodies (body_of frame.old)) }
+        ensures durable { OnOk result ((generation : ℕ) (bodies : List (List ℕ))
+            → IsSettled D.Disk self.old generation bodies
+            → IsSettled D.Disk self.new generation (bodies ++ body_of frame.old ∷ [])) }
     {
         let (generation, gate) = match self.stage {
             Stage::Open { generation, gate } => (generation, gate),
@@ -183,7 +208,8 @@ impl<D: Disk> LaneWriter<D> {
         ensures disk { disk_of self.new ≡ disk_of self.old }
         ensures lane { lane_of self.new ≡ lane_of self.old }
         ensures ok { OnOk done (IsOk result × (stage_of self.new ≡ next)) }
-        ensures err { OnErr done ((result ≡ Err (LaneFault.Disk (even_file (lane_of self.old)))) × (stage_of self.new ≡ Stage.Failed (even_file (lane_of self.old)))) }
+        ensures err { OnErr done ((result ≡ Err (LaneFault.Disk (even_file (lane_of self.old))))
+            × (stage_of self.new ≡ Stage.Failed (even_file (lane_of self.old)))) }
     {
         let file = FileName::Lane {
             lane: self.lane,

@@ -12,7 +12,7 @@ returns-in_err-put-clause-moments g c = λ generation lane bodies body place spe
     let D = g.D.Disk in
     let old = c.args.disk.now in
     let frame = c.args.frame.now in
-    weaker D.moment D.left_since old c.put.new.disk (TornFrom (D.may_leave old) (c.args.gate + 1) frame) (WithOrWithout generation lane bodies body)
+    weaker D old c.put.new.disk (TornFrom (D.may_leave old) (c.args.gate + 1) frame) (WithOrWithout generation lane bodies body)
     (λ image torn. inl (after_frame generation lane bodies c.args.gate place (D.may_leave old) frame lanes.each image torn)) c.put.ensures.moments
 
 pub returns-clause-moments : goal.returns-clause-moments
@@ -23,7 +23,7 @@ returns-clause-moments g c = λ generation lane bodies body place spelled lanes.
     let frame = c.args.frame.now in
     let gate = c.args.gate in
     let P = WithOrWithout generation lane bodies body in
-    let first = weaker D.moment D.left_since old mid (TornFrom (D.may_leave old) (gate + 1) frame) P
+    let first = weaker D old mid (TornFrom (D.may_leave old) (gate + 1) frame) P
     (λ image torn. inl (after_frame generation lane bodies gate place (D.may_leave old) frame lanes.each image torn)) c.put.ensures.moments in
     let bytes = some_of (D.content old) lanes.told in
     let file = written (gate + 1) frame bytes.0 in
@@ -32,6 +32,6 @@ returns-clause-moments g c = λ generation lane bodies body place spelled lanes.
     let inside : gate < length file = omega (arith, c.requires.inside bytes.0 bytes.1, no_shorter (gate + 1) frame bytes.0) in
     let before = lanes.each bytes.0 (g.met.D.Disk.leaves_as_read old bytes.0 bytes.1) in
     let behind = after_frame generation lane bodies gate place (D.may_leave old) frame lanes.each file (c.put.ensures.crash file (g.met.D.Disk.leaves_as_read mid file told)) in
-    let second = weaker D.moment D.left_since mid c.put-2.new.disk (TornFrom (D.may_leave mid) gate (1 ∷ [])) P
+    let second = weaker D mid c.put-2.new.disk (TornFrom (D.may_leave mid) gate (1 ∷ [])) P
     (λ image torn. opened_batch generation lane bodies gate place body frame file bytes.0 image spelled refl before behind (opened_or_old gate file (D.may_leave mid) inside only image torn)) c.put-2.ensures.moments in
-    joined D.moment D.left_since old mid c.put-2.new.disk P first second
+    joined D old mid c.put-2.new.disk P first second

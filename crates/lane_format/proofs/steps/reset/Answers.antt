@@ -28,7 +28,7 @@ returns-clause-moments g c = λ closed.
     let mid = c.put.new.disk in
     let header = c.header.result in
     let P = NotOpenOrEmpty c.args.generation c.args.lane in
-    let first = weaker D.moment D.left_since old mid (TornFrom (D.may_leave old) 1 header) P (λ image torn. inl (after_header (D.may_leave old) header closed.each image torn)) c.put.ensures.moments in
+    let first = weaker D old mid (TornFrom (D.may_leave old) 1 header) P (λ image torn. inl (after_header (D.may_leave old) header closed.each image torn)) c.put.ensures.moments in
     let bytes = some_of (D.content old) closed.told in
     let file = written 1 header bytes.0 in
     let told = c.in_ok-put.ensures.written ∙ ap (option_map (written 1 header)) bytes.1 in
@@ -36,6 +36,6 @@ returns-clause-moments g c = λ closed.
     let some : 0 < length bytes.0 = c.requires bytes.0 bytes.1 in
     let inside : 0 < length file = omega (arith, some, no_shorter 1 header bytes.0) in
     let shut = after_header (D.may_leave old) header closed.each file (c.put.ensures.crash file (g.met.D.Disk.leaves_as_read mid file told)) in
-    let second = weaker D.moment D.left_since mid c.put-2.new.disk (TornFrom (D.may_leave mid) 0 (1 ∷ [])) P
+    let second = weaker D mid c.put-2.new.disk (TornFrom (D.may_leave mid) 0 (1 ∷ [])) P
     (λ image torn. opened_empty c.args.generation c.args.lane header file bytes.0 image c.header.ensures refl some shut (opened_or_old 0 file (D.may_leave mid) inside only image torn)) c.put-2.ensures.moments in
-    joined D.moment D.left_since old mid c.put-2.new.disk P first second
+    joined D old mid c.put-2.new.disk P first second

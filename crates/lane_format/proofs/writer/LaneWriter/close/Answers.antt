@@ -20,4 +20,4 @@ returns-clause-durable g c =
     both_ok c.finish.result pending changed (λ pending changed. λ told.
     let new_told = subst (λ d. IsSome (D.content d)) (sym c.finish.ensures.disk) (c.close-done.ensures.told told) in
     let not_open = told_after shut (D.content old) (D.content new) (λ _. Unit {0}) IsNotOpen changed (λ _ _. tt) (λ x _ is. let one : 0 ≡ 1 = is in omega (arith, one)) in
-    now_as_told D.content D.may_leave new IsNotOpen new_told pending not_open)
+    now_as_told D new IsNotOpen new_told pending not_open)

@@ -53,4 +53,4 @@ returns-clause-durable g c =
     both_ok c.finish.result pending (returns-clause-appended g c) (λ pending appended. λ generation bodies settled.
     let holds = appended generation bodies settled.holds in
     let told = subst (λ d. IsSome (D.content d)) (sym c.finish.ensures.disk) (c.append-done.ensures.told settled.crash.told) in
-    record { holds = holds; crash = now_as_told D.content D.may_leave new.disk (IsLane generation new.lane (bodies ++ body_of c.args.frame.now ∷ [])) told pending holds.file })
+    record { holds = holds; crash = now_as_told D new.disk (IsLane generation new.lane (bodies ++ body_of c.args.frame.now ∷ [])) told pending holds.file })

@@ -31,4 +31,4 @@ returns-clause-durable g c =
     (λ pending ok. subst (λ d. NothingPending (D.content d) (D.may_leave d)) (sym c.finish.ensures.disk) pending) in
     both_ok c.finish.result pending (returns-clause-empty g c) (λ pending holds. λ told.
     let new_told = subst (λ d. IsSome (D.content d)) (sym c.finish.ensures.disk) (c.reset-done.ensures.told told) in
-    record { holds = holds; crash = now_as_told D.content D.may_leave new.disk (IsLane c.args.generation new.lane []) new_told pending holds.file })
+    record { holds = holds; crash = now_as_told D new.disk (IsLane c.args.generation new.lane []) new_told pending holds.file })
