@@ -3,7 +3,7 @@ use Rattle.std.proofs.Common.{◌≡◌, inl, inr, ⊎_elim, ℕ, zero, suc, ◌
 use Rattle.std.proofs.lemmas.List.{length-take, get_or-take, get_or_past, ext_get_or}
 use Rattle.std.proofs.lemmas.Bool.{cases_lt, cases_Bool, or_cases, or_left, or_right, and_parts, and_from, and_left, eqb-true, eq-eqb, ne_eqb, cond-true, cond-false, cond_both, not_from_false}
 use Rattle.std.proofs.Math.Nat.{mod-eq_of_lt}
-use Rattle.disk_core.specs.History.{Change, Wrote, Tried, Synced, content_after, MayLeave}
+use Rattle.disk_core.specs.History.{Change, Wrote, Tried, Synced, TriedSync, content_after, MayLeave}
 use Rattle.disk_core.specs.HistoryLaws.{reads_left}
 use Rattle.disk_core.specs.Places.{at_sync, is_in_range, is_left_of, is_written, is_left, MayHold, IsImage, BeginInside, written_below, chosen_at, chosen_or_synced, crashed_byte, choice_for}
 use Rattle.disk_core.proofs.Places.{is_image, may_leave}
@@ -24,6 +24,7 @@ left_written (Tried at bytes size ∷ calls) k byte left =
     (λ before. or_right range (is_written calls k) (left_written calls k byte before))
     (or_cases (range && is_left_of bytes byte) (is_left calls k byte) left)
 left_written (Synced ∷ calls) k byte left = cc
+left_written (TriedSync ∷ calls) k byte left = left_written calls k byte left
 
 module _ (calls : List Change) where
   more_written : (k : ℕ) → is_written calls k ≡ true → written_below calls (k + 1) ≡ written_below calls k + 1

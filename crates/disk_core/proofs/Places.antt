@@ -4,7 +4,7 @@ use Rattle.std.proofs.lemmas.List.{length-take, length-drop, get_or-take, get_or
 use Rattle.std.proofs.lemmas.Bool.{cases_lt, or_cases, or_left, or_right, and_parts, and_from, ltb-true, leb-true, lt-ltb, le-leb, eqb-true, eq-eqb}
 use Rattle.disk_core.specs.Device.{Torn, written}
 use Rattle.disk_core.specs.Crash.{Tears}
-use Rattle.disk_core.specs.History.{Change, Wrote, Tried, Synced, content_after, MayLeave}
+use Rattle.disk_core.specs.History.{Change, Wrote, Tried, Synced, TriedSync, content_after, MayLeave}
 use Rattle.disk_core.specs.HistoryLaws.{reads_left}
 use Rattle.disk_core.specs.Places.{at_sync, is_in_range, is_left_of, is_left, MayHold, IsImage, BeginInside}
 use Rattle.disk_core.proofs.Images.{length-written_parts, whole_write}
@@ -87,6 +87,7 @@ module _ (initial : List ℕ) where
   synced_within (Wrote at bytes ∷ earlier) begin = omega (arith, synced_within earlier begin.1, length-written at bytes (content_after initial earlier) begin.0)
   synced_within (Tried at bytes size ∷ earlier) begin = synced_within earlier begin.2
   synced_within (Synced ∷ earlier) begin = omega arith
+  synced_within (TriedSync ∷ earlier) begin = synced_within earlier begin
 
   -- no write has left a byte past the end
   none_past : (calls : List Change) → BeginInside initial calls → (k byte : ℕ) → length (content_after initial calls) ≤ k → is_left calls k byte ≡ true → ⊥
@@ -103,6 +104,7 @@ module _ (initial : List ℕ) where
       (λ before. none_past earlier begin.2 k byte past before)
       (or_cases _ _ is)
   none_past (Synced ∷ earlier) begin k byte past is = cc
+  none_past (TriedSync ∷ earlier) begin k byte past is = none_past earlier begin k byte past is
 
   -- past the end a place may hold nothing but 0
   zero_past : (calls : List Change) → BeginInside initial calls → (k byte : ℕ) → length (content_after initial calls) ≤ k → MayHold initial calls k byte → byte ≡ 0
@@ -243,6 +245,9 @@ module _ (initial : List ℕ) where
         each = λ k. tried_from calls at bytes size k (get_or image k 0) (⊎_elim (λ same. inl (subst (λ b. MayHold initial calls k b) (sym same) (is.each k))) (λ here. inr (omega (arith, here.0, step.3, begin.1), (here.1, here.2, here.3))) (torn_place at bytes step.0 image tears k));
       }
   is_image (Synced ∷ calls) begin image is = same_image (Synced ∷ calls) (content_after initial calls) image (record { no_shorter = omega arith; no_longer = omega arith; each = λ k. inl refl }) is
+  is_image (TriedSync ∷ calls) begin image left =
+      let is = is_image calls begin image left in
+      record { no_shorter = is.no_shorter; no_longer = is.no_longer; each = is.each }
 
   -- a list that holds at each place what that held at the last sync, and is as long
   settled : (bytes image : List ℕ) → length bytes ≤ length image → length image ≤ length bytes → ((k : ℕ) → get_or image k 0 ≡ get_or bytes k 0) → image ≡ bytes
@@ -263,3 +268,4 @@ module _ (initial : List ℕ) where
       let back = step_back initial calls at bytes image begin.2 begin.0 is.no_shorter (omega (arith, is.no_longer)) (λ k. tried_parts calls at bytes size k (get_or image k 0) (is.each k)) in
       (back.0, may_leave calls begin.2 back.0 back.1, back.2, is.no_longer)
   may_leave (Synced ∷ calls) begin image is = settled (content_after initial calls) image is.no_shorter is.no_longer (λ k. from_none (content_after initial calls) k (get_or image k 0) (is.each k))
+  may_leave (TriedSync ∷ calls) begin image is = may_leave calls begin image (record { no_shorter = is.no_shorter; no_longer = is.no_longer; each = is.each })

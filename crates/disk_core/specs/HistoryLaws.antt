@@ -3,7 +3,7 @@ use Rattle.std.specs.Prelude.{◌≡◌, ℕ, List, [], ◌∷◌, length, Some,
 use Rattle.std.specs.Option.{ForSome}
 use Rattle.std.proofs.Common.{inl, inr, subst, arith}
 use Rattle.disk_core.specs.Crash.{Tears}
-use Rattle.disk_core.specs.History.{Change, Wrote, Tried, Synced, content_after, MayLeave, LeftSince}
+use Rattle.disk_core.specs.History.{Change, Wrote, Tried, Synced, TriedSync, content_after, MayLeave, LeftSince}
 
 -- a crash may leave nothing of a write
 pub nothing_torn : (at : ℕ) (bytes image : List ℕ) → Tears at bytes image image
@@ -18,6 +18,7 @@ reads_left initial [] = refl
 reads_left initial (Wrote at bytes ∷ earlier) = inl refl
 reads_left initial (Tried at bytes size ∷ earlier) = (content_after initial earlier, reads_left initial earlier, nothing_torn at bytes (content_after initial earlier), omega arith)
 reads_left initial (Synced ∷ earlier) = refl
+reads_left initial (TriedSync ∷ earlier) = reads_left initial earlier
 
 -- the same of an option
 pub as_read : (initial : List ℕ) (calls : List Change) → ForSome (Some (content_after initial calls)) (MayLeave initial calls)

@@ -1,3 +1,4 @@
+pub mod ChangeCalls
 pub mod Crash
 pub mod Device
 pub mod Entries

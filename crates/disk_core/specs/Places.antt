@@ -1,6 +1,6 @@
 -- What a crash may leave after the change calls of a disk in memory, place by place: what a byte may hold.
 use Rattle.std.specs.Prelude.{◌≡◌, ◌⊎◌, ℕ, zero, suc, ◌+◌, ◌%◌, ◌≤◌, Bool, true, false, not, ◌&&◌, ◌||◌, ◌==◌, nat_le, nat_lt, if◌then◌else◌, List, [], ◌∷◌, length, slice_index, IsTrue, ⊤}
-use Rattle.disk_core.specs.History.{Change, Wrote, Tried, Synced, content_after}
+use Rattle.disk_core.specs.History.{Change, Wrote, Tried, Synced, TriedSync, content_after}
 
 -- what a read gave at the last sync
 abbrev pub at_sync : List ℕ → List Change → List ℕ
@@ -8,6 +8,7 @@ at_sync initial [] = initial
 at_sync initial (Wrote at bytes ∷ earlier) = at_sync initial earlier
 at_sync initial (Tried at bytes size ∷ earlier) = at_sync initial earlier
 at_sync initial (Synced ∷ earlier) = content_after initial earlier
+at_sync initial (TriedSync ∷ earlier) = at_sync initial earlier
 
 -- whether a place is one of the n from another on
 abbrev pub is_in_range : ℕ → ℕ → ℕ → Bool
@@ -24,6 +25,7 @@ is_written [] place = false
 is_written (Wrote at bytes ∷ earlier) place = is_in_range at (length bytes) place || is_written earlier place
 is_written (Tried at bytes size ∷ earlier) place = is_in_range at (length bytes) place && nat_lt place size || is_written earlier place
 is_written (Synced ∷ earlier) place = false
+is_written (TriedSync ∷ earlier) place = is_written earlier place
 
 -- whether such a write may have left this byte there
 abbrev pub is_left : List Change → ℕ → ℕ → Bool
@@ -31,6 +33,7 @@ is_left [] place byte = false
 is_left (Wrote at bytes ∷ earlier) place byte = is_in_range at (length bytes) place && is_left_of bytes byte || is_left earlier place byte
 is_left (Tried at bytes size ∷ earlier) place byte = is_in_range at (length bytes) place && nat_lt place size && is_left_of bytes byte || is_left earlier place byte
 is_left (Synced ∷ earlier) place byte = false
+is_left (TriedSync ∷ earlier) place byte = is_left earlier place byte
 
 -- a place may hold what it held at the last sync, 0 past the end then, or what a write since may have left
 abbrev pub MayHold : List ℕ → List Change → ℕ → ℕ → Type 0
@@ -48,6 +51,7 @@ BeginInside initial [] = ⊤
 BeginInside initial (Wrote at bytes ∷ earlier) = (at ≤ length (content_after initial earlier)) × BeginInside initial earlier
 BeginInside initial (Tried at bytes size ∷ earlier) = (at ≤ length (content_after initial earlier)) × (size ≡ length (content_after initial earlier)) × BeginInside initial earlier
 BeginInside initial (Synced ∷ earlier) = BeginInside initial earlier
+BeginInside initial (TriedSync ∷ earlier) = BeginInside initial earlier
 
 -- how many of the places below this one a write since the last sync wrote
 abbrev pub written_below : List Change → ℕ → ℕ

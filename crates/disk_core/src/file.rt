@@ -1,4 +1,4 @@
-// A file of the system. It tells no bytes, and counts its faults.
+// A file of the system. Its content and its calls aren't known, and it counts its faults.
 ghost use Rattle.std.specs.Prelude.{◌≡◌, None, true, length, IsTrue, IsNone, IsErr};
 ghost use Rattle.causes.specs.Causes.{HasCause};
 ghost use Rattle.disk_core.specs.Crash.{Follows, Tears};
@@ -12,8 +12,8 @@ use std::marker::Model;
 use std::os::fd::AsRawFd;
 use std::os::unix::fs::FileExt;
 
-/// A file of the system, read and written at places. A read, a write or a sync that a signal interrupts is made again,
-/// and one that reads or writes a part is continued.
+/// A file of the system, read and written at places. A read, a write or a sync that a signal interrupts is made
+/// again, and one that reads or writes a part is continued.
 #[derive(Drop)]
 pub struct FileDisk {
     file: Option<File>,
@@ -44,7 +44,7 @@ impl FileDisk {
         }
     }
 
-    /// Stands for a file that can't be opened or made: each call of it answers `Failed`.
+    /// Stands for a file that can't be opened or made: each call of it returns `Failed`.
     pub fn missing() -> FileDisk
         ensures { result ≡ record { missing = true; faults = 0 } }
     {
@@ -121,6 +121,8 @@ impl Disk for FileDisk {
 
     ghost faults = { λ f. f.faults };
 
+    ghost calls = { λ _. None };
+
     ghost counts_now = { λ f t image le now. now };
 
     ghost only_now = { λ f image now. now };
@@ -130,7 +132,7 @@ impl Disk for FileDisk {
     fn size(&mut self) -> Result<u64, Failed>
         ensures cause { HasCause self.old.faults self.new.faults result }
 
-        // A missing file answers nothing else, and each fault is counted once.
+        // A missing file returns nothing else, and each fault is counted once.
         ensures missing { IsTrue self.old.missing → IsErr result }
         ensures counted { self.new ≡ record self.old { faults = faults_after result self.old.faults } }
     {
@@ -141,7 +143,7 @@ impl Disk for FileDisk {
     fn read_at(&mut self, at: u64, into: &mut [u8]) -> Result<(), Failed>
         ensures cause { HasCause self.old.faults self.new.faults result }
 
-        // A missing file answers nothing else, and each fault is counted once.
+        // A missing file returns nothing else, and each fault is counted once.
         ensures missing { IsTrue self.old.missing → IsErr result }
         ensures counted { self.new ≡ record self.old { faults = faults_after result self.old.faults } }
     {
@@ -153,7 +155,7 @@ impl Disk for FileDisk {
         ensures crash { Follows (Tears at bytes.now) AnyImage AnyImage }
         ensures cause { HasCause self.old.faults self.new.faults result }
 
-        // A missing file answers nothing else, and each fault is counted once.
+        // A missing file returns nothing else, and each fault is counted once.
         ensures missing { IsTrue self.old.missing → IsErr result }
         ensures counted { self.new ≡ record self.old { faults = faults_after result self.old.faults } }
     {
@@ -164,7 +166,7 @@ impl Disk for FileDisk {
     fn sync(&mut self) -> Result<(), Failed>
         ensures cause { HasCause self.old.faults self.new.faults result }
 
-        // A missing file answers nothing else, and each fault is counted once.
+        // A missing file returns nothing else, and each fault is counted once.
         ensures missing { IsTrue self.old.missing → IsErr result }
         ensures counted { self.new ≡ record self.old { faults = faults_after result self.old.faults } }
     {

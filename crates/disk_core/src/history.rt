@@ -1,5 +1,6 @@
 // The record of the change calls of a disk in memory, in memory that is taken when it is made.
-ghost use Rattle.std.specs.Prelude.{◌≡◌, ◌↔◌, ◌+◌, ◌-◌, ◌<◌, ◌≤◌, List, [], ◌∷◌, length, IsTrue, IfOk, MatchOption};
+ghost use Rattle.std.specs.Prelude.{◌≡◌, ◌↔◌, ◌+◌, ◌-◌, ◌<◌, ◌≤◌, List, [], ◌∷◌, length};
+ghost use Rattle.std.specs.Prelude.{IsTrue, IfOk, MatchOption};
 ghost use Rattle.disk_core.specs.Memory.{room_of};
 ghost use Rattle.disk_core.specs.Entries.{change_of, len_of};
 ghost use Rattle.disk_core.specs.History.{Change};
@@ -10,13 +11,14 @@ use crate::OutOfMemory;
 use std::alloc::Global;
 use std::marker::Model;
 
-/// A change call: a write that succeeded, one that failed after it had begun on a disk of that size, or a sync that
-/// succeeded.
+/// A change call: a write that succeeded, one that failed after it had begun on a disk of that size, a sync that
+/// succeeded, or one that failed.
 #[derive(Clone, Copy)]
 pub(crate) enum Entry {
     Write { at: usize, len: usize },
     Attempt { at: usize, len: usize, size: usize },
     Sync,
+    SyncAttempt,
 }
 
 impl Entry {
@@ -27,7 +29,7 @@ impl Entry {
     {
         match *self {
             Entry::Write { len, .. } | Entry::Attempt { len, .. } => len,
-            Entry::Sync => 0,
+            Entry::Sync | Entry::SyncAttempt => 0,
         }
     }
 
@@ -42,6 +44,7 @@ impl Entry {
                 is_in_range(at, bytes.len(), place) && place < size || earlier
             }
             Entry::Sync => false,
+            Entry::SyncAttempt => earlier,
         }
     }
 
@@ -59,6 +62,7 @@ impl Entry {
                 reached && is_left_of(bytes, byte) || earlier
             }
             Entry::Sync => false,
+            Entry::SyncAttempt => earlier,
         }
     }
 }
@@ -119,14 +123,6 @@ impl History {
         ensures { IsTrue result ↔ (room_of n ≤ self.now.room) }
     {
         room_without(self.room, n).is_some()
-    }
-
-    /// Uses the room of a call of n bytes, and keeps no call.
-    pub(crate) fn spend(&mut self, n: usize)
-        requires { room_of n ≤ self.old.room }
-        ensures { self.new ≡ record self.old { room = self.old.room - room_of n } }
-    {
-        self.room = room_without(self.room, n).unwrap_or(0);
     }
 
     /// Keeps a call with its bytes.

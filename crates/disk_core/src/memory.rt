@@ -1,10 +1,13 @@
-// A disk in memory, which tells its bytes and fails at the calls that it is told to.
-ghost use Rattle.std.specs.Prelude.{◌≡◌, ◌⊎◌, ◌↔◌, ◌+◌, ◌<◌, ◌≤◌, List, ℕ, [], Some, length, slice_index, EachIndex, Contains, IsTrue, IsErr, IfOk, OnOk, OnErr, vec_len, vec_capacity};
+// A disk in memory, whose content and calls are known. It fails at the calls that are named.
+ghost use Rattle.std.specs.Prelude.{◌≡◌, ◌⊎◌, ◌↔◌, ◌+◌, ◌<◌, ◌≤◌, List, ℕ, [], ◌∷◌, Some, length, slice_index};
+ghost use Rattle.std.specs.Prelude.{EachIndex, Contains, IsTrue, IsErr, IfOk, OnOk, OnErr, vec_len, vec_capacity};
 ghost use Rattle.causes.specs.Causes.{HasCause, one_more};
+ghost use Rattle.disk_core.specs.ChangeCalls.{Made, SyncCall, WriteCall};
 ghost use Rattle.disk_core.specs.Crash.{Elapses, Follows, NoneNew, Only, Tears};
 ghost use Rattle.disk_core.specs.Device.{Measures, Reads, Writes, written};
 ghost use Rattle.disk_core.specs.Places.{IsImage, choice_for, crashed_byte};
-ghost use Rattle.disk_core.specs.Memory.{room_of, content_of, synced_of, new_disk, CrashLeaves, CrashLeftSince, after_read, after_write, after_sync};
+ghost use Rattle.disk_core.specs.Memory.{room_of, content_of, known_calls, synced_of, new_disk};
+ghost use Rattle.disk_core.specs.Memory.{CrashLeaves, CrashLeftSince, after_read, after_write, after_sync};
 
 use crate::history::{Entry, History};
 use crate::tear::tear;
@@ -12,14 +15,15 @@ use crate::{Disk, Failed, OutOfMemory};
 use std::alloc::Global;
 use std::marker::Model;
 
-/// A file in memory. All its memory is taken when it is made: a write of n bytes uses 2 * n + 64 of the room that
-/// it was made with, and a sync 64.
+/// A file in memory. All its memory is taken when it is made: a write of n bytes uses 2 * n + 64 of the room
+/// that it was made with, and a sync 64. Its calls are known until one finds too little room.
 #[derive(Drop)]
 pub struct MemDisk {
     initial: Vec<u8>,
     synced: Vec<u8>,
     content: Vec<u8>,
     history: History,
+    whole: bool,
     changes: Calls,
     reads: Calls,
     faults: u64,
@@ -36,6 +40,7 @@ impl Model for MemDisk {
     ghost view = { λ d. record {
       initial = d.initial.items;
       calls = d.history.calls;
+      whole = d.whole;
       room = d.history.room;
       changes = d.changes.made;
       reads = d.reads.made;
@@ -70,14 +75,16 @@ impl MemDisk {
             synced,
             content,
             history: History::new(alloc, room)?,
+            whole: true,
             changes: Calls::naming(Vec::new(alloc)),
             reads: Calls::naming(Vec::new(alloc)),
             faults: 0,
         })
     }
 
-    /// Names the calls that answer `Failed`, in place of those that were named before. The first call after this one
-    /// is 1; `changes` counts the calls of `write_at` and `sync` together, `reads` those of `size` and `read_at`.
+    /// Names the calls that return `Failed`, in place of those that were named before. The first call after this
+    /// one is 1; `changes` counts the calls of `write_at` and `sync` together, `reads` those of `size` and
+    /// `read_at`.
     pub fn failing(self, changes: Vec<u64>, reads: Vec<u64>) -> MemDisk
         ensures { result ≡ record self {
           changes = 0;
@@ -100,8 +107,8 @@ impl MemDisk {
         self.content.as_slice()
     }
 
-    /// How many bytes a crash now leaves at least: as many as there were at the last sync. At most it leaves as many
-    /// as there are.
+    /// How many bytes a crash now leaves at least: as many as there were at the last sync. At most it leaves as
+    /// many as there are.
     pub fn least_size(&self) -> u64
         ensures least { result ≡ length (synced_of self.now) }
         ensures most { result ≤ length (content_of self.now) }
@@ -111,10 +118,10 @@ impl MemDisk {
         self.synced.as_slice().len() as u64
     }
 
-    /// The disk that a crash leaves, of that size. In the order of their places, each byte that a write since the last
-    /// sync has written takes the next byte of `choice`, which repeats, where a crash may leave that there, and else
-    /// is what it was at the last sync, 0 past the end then. With an empty `choice` each byte is as a read gives it.
-    /// The new disk has the room that was left.
+    /// The disk that a crash leaves, of that size. In the order of their places, each byte that a write since the
+    /// last sync has written takes the next byte of `choice`, which repeats, where a crash may leave that there,
+    /// and else is what it was at the last sync, 0 past the end then. With an empty `choice` each byte is as a read
+    /// gives it. The new disk has the room that was left.
     pub fn crash(mut self, choice: &[u8], size: u64) -> MemDisk
         requires least { length (synced_of self) ≤ size }
         requires most { size ≤ length (content_of self) }
@@ -138,6 +145,7 @@ impl MemDisk {
         refill(&mut self.initial, &self.content);
         refill(&mut self.synced, &self.content);
         self.history.forget();
+        self.whole = true;
         self.changes.forget();
         self.reads.forget();
         self.faults = 0;
@@ -209,7 +217,7 @@ fn put(content: &mut Vec<u8>, at: usize, bytes: &[u8])
 
 impl Disk for MemDisk {
     ghost use Rattle.std.specs.Prelude.{Some, length};
-    ghost use Rattle.disk_core.specs.Memory.{content_of, CrashLeaves, CrashLeftSince};
+    ghost use Rattle.disk_core.specs.Memory.{content_of, known_calls, CrashLeaves, CrashLeftSince};
     ghost use Rattle.disk_core.specs.HistoryLaws.{as_read, now_since, since_now};
 
     ghost content = { λ d. Some (content_of d) };
@@ -222,6 +230,8 @@ impl Disk for MemDisk {
 
     ghost faults = { λ d. d.faults };
 
+    ghost calls = { known_calls };
+
     ghost counts_now = { λ d t image le. now_since d.initial t d.calls image };
 
     ghost only_now = { λ d. since_now d.initial d.calls };
@@ -231,6 +241,7 @@ impl Disk for MemDisk {
     fn size(&mut self) -> Result<u64, Failed>
         ensures size { Measures (Some (content_of self.old)) result }
         ensures same { content_of self.new ≡ content_of self.old }
+        ensures calls { known_calls self.new ≡ known_calls self.old }
         ensures crash { NoneNew (CrashLeaves self.old) (CrashLeaves self.new) }
         ensures time { Elapses (length self.old.calls) (length self.new.calls)
             (CrashLeftSince self.old) (CrashLeftSince self.new) (CrashLeaves self.new) }
@@ -250,6 +261,7 @@ impl Disk for MemDisk {
         requires { at + length into.old ≤ length (content_of self.old) }
         ensures bytes { Reads (Some (content_of self.old)) at result into.new }
         ensures same { content_of self.new ≡ content_of self.old }
+        ensures calls { known_calls self.new ≡ known_calls self.old }
         ensures crash { NoneNew (CrashLeaves self.old) (CrashLeaves self.new) }
         ensures time { Elapses (length self.old.calls) (length self.new.calls)
             (CrashLeftSince self.old) (CrashLeftSince self.new) (CrashLeaves self.new) }
@@ -270,13 +282,16 @@ impl Disk for MemDisk {
 
     fn write_at(&mut self, at: u64, bytes: &[u8]) -> Result<(), Failed>
         requires { at ≤ length (content_of self.old) }
-        ensures written { Writes (Some (content_of self.old)) at bytes.now result (Some (content_of self.new)) }
+        ensures written { Writes (Some (content_of self.old)) at bytes.now result
+            (Some (content_of self.new)) }
+        ensures calls { Made (WriteCall at bytes.now ∷ []) result (known_calls self.old) (known_calls self.new) }
         ensures crash { Follows (Tears at bytes.now) (CrashLeaves self.old) (CrashLeaves self.new) }
         ensures time { Elapses (length self.old.calls) (length self.new.calls)
             (CrashLeftSince self.old) (CrashLeftSince self.new) (CrashLeaves self.new) }
         ensures cause { HasCause self.old.faults self.new.faults result }
 
-        // It fails exactly where it is named or finds too little room, and then a read gives what it gave before.
+        // It fails exactly where it is named or finds too little room, and then a read gives what it gave
+        // before.
         ensures named { IsErr result ↔ Contains self.old.failing_changes (one_more self.old.changes)
             ⊎ (self.old.room < room_of (length bytes.now)) }
         ensures nothing { OnErr result (content_of self.new ≡ content_of self.old) }
@@ -284,6 +299,7 @@ impl Disk for MemDisk {
     {
         let named = self.changes.count();
         if !self.history.fits(bytes.len()) {
+            self.whole = false;
             return Err(fail(&mut self.faults));
         }
         let at = at as usize;
@@ -300,23 +316,26 @@ impl Disk for MemDisk {
 
     fn sync(&mut self) -> Result<(), Failed>
         ensures same { content_of self.new ≡ content_of self.old }
+        ensures calls { Made (SyncCall ∷ []) result (known_calls self.old) (known_calls self.new) }
         ensures crash { NoneNew (CrashLeaves self.old) (CrashLeaves self.new) }
         ensures durable { OnOk result (Only (content_of self.new) (CrashLeaves self.new)) }
         ensures time { Elapses (length self.old.calls) (length self.new.calls)
             (CrashLeftSince self.old) (CrashLeftSince self.new) (CrashLeaves self.new) }
         ensures cause { HasCause self.old.faults self.new.faults result }
 
-        // It fails exactly where it is named or finds too little room, and then a crash may leave what it might before.
+        // It fails exactly where it is named or finds too little room, and then a crash may leave what it might
+        // before.
         ensures named { IsErr result ↔ Contains self.old.failing_changes (one_more self.old.changes)
             ⊎ (self.old.room < room_of 0) }
         ensures counted { self.new ≡ after_sync result self.old }
     {
         let named = self.changes.count();
         if !self.history.fits(0) {
+            self.whole = false;
             return Err(fail(&mut self.faults));
         }
         if named {
-            self.history.spend(0);
+            self.history.keep(Entry::SyncAttempt, &[]);
             return Err(fail(&mut self.faults));
         }
         refill(&mut self.synced, &self.content);
