@@ -4,3 +4,4 @@ pub mod Images
 pub mod Lone
 pub mod Moments
 pub mod Places
+pub mod Plans

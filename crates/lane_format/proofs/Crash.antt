@@ -5,7 +5,7 @@ use Rattle.std.specs.Int.{w16, w64, to_le_bytes}
 use Rattle.disk_core.specs.Crash.{Only, Tears}
 use Rattle.disk_core.specs.Device.{written}
 use Rattle.disk_core.proofs.Lone.{lone_write}
-use Rattle.lane_format.specs.Lane.{IsLane, IsNotOpen, emptied, extended, frame_text, lane_text}
+use Rattle.lane_format.specs.Lane.{IsBody, IsHead, IsLane, IsNotOpen, emptied, extended, frame_text, lane_text}
 use Rattle.lane_format.specs.Crash.{NotOpenOrEmpty, TornFrom, WithOrWithout}
 use Rattle.lane_format.proofs.Lanes.{empty_lane, gate_inside, grown}
 use Rattle.lane_format.proofs.Writes.{header_then_gate}
@@ -27,14 +27,14 @@ after_header may_leave header shut image torn = λ is. shut torn.0 torn.1 (sym (
 pub opened_or_old : (at : ℕ) (file : List ℕ) (may_leave : List ℕ → Type 0) → at < length file → Only file may_leave → (image : List ℕ) → TornFrom may_leave at (1 ∷ []) image → (image ≡ file) ⊎ (image ≡ written at (1 ∷ []) file)
 opened_or_old at file may_leave inside only image torn = lone_write at 1 file image inside (subst (λ f. Tears at (1 ∷ []) f image) (only torn.0 torn.1) torn.2)
 
-pub opened_empty : (generation lane : ℕ) (header file bytes image : List ℕ) → header ≡ to_le_bytes w64 generation ++ to_le_bytes w16 lane ++ 0 ∷ [] → file ≡ written 1 header bytes → 0 < length bytes → IsNotOpen file
+pub opened_empty : (generation lane : ℕ) (header file bytes image : List ℕ) → header ≡ to_le_bytes w64 generation ++ to_le_bytes w16 lane ++ 0 ∷ [] → file ≡ written 1 header bytes → 0 < length bytes → IsHead generation lane → IsNotOpen file
     → (image ≡ file) ⊎ (image ≡ written 0 (1 ∷ []) file) → NotOpenOrEmpty generation lane image
-opened_empty generation lane header file bytes image spelled is some shut = ⊎_elim
+opened_empty generation lane header file bytes image spelled is some head shut = ⊎_elim
     (λ same. inl (subst IsNotOpen (sym same) shut))
     (λ done.
     let whole : image ≡ emptied generation lane bytes =
     done ∙ ap (written 0 (1 ∷ [])) is ∙ ap (λ (h : List ℕ). written 0 (1 ∷ []) (written 1 h bytes)) spelled ∙ header_then_gate generation lane bytes some in
-    inr (subst (IsLane generation lane []) (sym whole) (empty_lane generation lane bytes)))
+    inr (subst (IsLane generation lane []) (sym whole) (empty_lane generation lane bytes head)))
 
 -- a frame behind a gate, and then the gate
 pub gate_over : (gate : ℕ) (frame bytes : List ℕ) → gate < length bytes → written gate (1 ∷ []) (written (gate + 1) frame bytes) ≡ extended gate frame bytes
@@ -61,17 +61,17 @@ module _ (generation lane : ℕ) (bodies : List (List ℕ)) (gate : ℕ) (place 
       let front : take (gate + 1) old ≡ text ++ closed_gate = ap (take (gate + 1)) (is.text ∙ sym (append_assoc text closed_gate is.rest)) ∙ take_at (text ++ closed_gate) is.rest (gate + 1) size in
       let whole : image ≡ text ++ is.gate ∷ behind =
       sym (take-append-drop (gate + 1) image) ∙ ap (λ (l : List ℕ). l ++ behind) (tears.torn.before ∙ front) ∙ append_assoc text closed_gate behind in
-      record { gate = is.gate; rest = behind; closed = is.closed; text = whole }
+      record { head = is.head; bodies_fit = is.bodies_fit; gate = is.gate; rest = behind; closed = is.closed; text = whole }
 
   pub after_frame : (may_leave : List ℕ → Type 0) (frame : List ℕ) → ((image : List ℕ) → may_leave image → IsLane generation lane bodies image) → (image : List ℕ) → TornFrom may_leave (gate + 1) frame image → IsLane generation lane bodies image
   after_frame may_leave frame lanes image torn = behind_gate frame torn.0 image torn.2 (lanes torn.0 torn.1)
 
-  pub opened_batch : (body frame file bytes image : List ℕ) → frame ≡ frame_text body → file ≡ written (gate + 1) frame bytes → IsLane generation lane bodies bytes → IsLane generation lane bodies file
+  pub opened_batch : (body frame file bytes image : List ℕ) → frame ≡ frame_text body → IsBody body → file ≡ written (gate + 1) frame bytes → IsLane generation lane bodies bytes → IsLane generation lane bodies file
       → (image ≡ file) ⊎ (image ≡ written gate (1 ∷ []) file) → WithOrWithout generation lane bodies body image
-  opened_batch body frame file bytes image spelled is before behind = ⊎_elim
+  opened_batch body frame file bytes image spelled fits is before behind = ⊎_elim
       (λ same. inl (subst (IsLane generation lane bodies) (sym same) behind))
       (λ done.
       let inside : gate < length bytes = omega (arith, place, gate_inside generation lane bodies bytes before) in
       let whole : image ≡ extended gate (frame_text body) bytes =
       done ∙ ap (written gate (1 ∷ [])) is ∙ gate_over gate frame bytes inside ∙ ap (λ (f : List ℕ). extended gate f bytes) spelled in
-      inr (subst (IsLane generation lane (bodies ++ body ∷ [])) (sym whole) (grown generation lane bodies gate body bytes place before)))
+      inr (subst (IsLane generation lane (bodies ++ body ∷ [])) (sym whole) (grown generation lane bodies gate body bytes place fits before)))

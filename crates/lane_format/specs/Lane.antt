@@ -1,6 +1,6 @@
 -- The text of a lane file: a header, batches one after the other, and behind them a gate that isn't open; and when a file is open at all.
-use Rattle.std.specs.Prelude.{◌≡◌, ◌≢◌, ℕ, ◌+◌, ◌-◌, List, [], ◌∷◌, ◌++◌, length, slice_index, take, drop}
-use Rattle.std.specs.List.{flat_map}
+use Rattle.std.specs.Prelude.{◌≡◌, ◌≢◌, ℕ, ◌+◌, ◌-◌, ◌<◌, ◌≤◌, ◌^◌, List, [], ◌∷◌, ◌++◌, length, slice_index, take, drop}
+use Rattle.std.specs.List.{AllByRecursion, flat_map}
 use Rattle.std.specs.Int.{w16, w32, w64, to_le_bytes}
 
 -- the file is open: its first byte is 1
@@ -10,6 +10,16 @@ IsOpen bytes = slice_index bytes 0 ≡ 1
 -- the file isn't open: its first byte is another, or it has none
 abbrev pub IsNotOpen : List ℕ → Type 0
 IsNotOpen bytes = ¬ (IsOpen bytes)
+
+-- what a header may say: a generation of 64 bits that isn't 0, and a lane's number of 16
+pub record IsHead (generation lane : ℕ) : Type 0 where
+  pub some : 1 ≤ generation
+  pub fits : generation < 2 ^ 64
+  pub lane_fits : lane < 2 ^ 16
+
+-- a body has a byte or more, and its length fits 32 bits
+abbrev pub IsBody : List ℕ → Type 0
+IsBody body = (1 ≤ length body) × (length body < 2 ^ 32)
 
 -- the header: an open gate, the generation and the lane's number
 unfoldable pub header_text : ℕ → ℕ → List ℕ
@@ -25,6 +35,8 @@ lane_text generation lane bodies = header_text generation lane ++ flat_map batch
 
 -- The file holds an open lane with these batches: the next gate is there and isn't open, and what stands behind it doesn't count.
 pub record IsLane (generation lane : ℕ) (bodies : List (List ℕ)) (bytes : List ℕ) : Type 0 where
+  pub head : IsHead generation lane
+  pub bodies_fit : AllByRecursion IsBody bodies
   pub gate : ℕ
   pub rest : List ℕ
   pub closed : gate ≢ 1

@@ -1,3 +1,4 @@
 pub mod Crash
 pub mod Lane
+pub mod Plans
 pub mod Writer

@@ -1,5 +1,5 @@
 -- What a lane writer knows of its file, and how its calls fail.
-use Rattle.std.specs.Prelude.{◌≡◌, ◌↔◌, ℕ, ◌<◌, ◌≤◌, ◌^◌, false, List, length, Result, Err, OnOk}
+use Rattle.std.specs.Prelude.{◌≡◌, ◌↔◌, ℕ, ◌%◌, ◌<◌, ◌≤◌, ◌^◌, false, List, length, Result, Err, OnOk}
 use Rattle.std.specs.Option.{ForSome}
 use Rattle.causes.specs.Causes.{one_more}
 use Rattle.disk_core.specs.declared.disk.Disk.{Ghosts}
@@ -38,8 +38,9 @@ pub record IsShut {D : Type 0} (d : Ghosts D) (w : LaneWriter D) (generation : �
   pub stage : stage_of w ≡ Shut generation
   pub gate : ForSome (d.content (disk_of w)) (λ bytes. 0 < length bytes)
 
--- its file is an open lane of this generation with these batches, and it stands at the gate behind them
+-- its file, that of even generations, is an open lane of this generation with these batches, and it stands at the gate behind them
 pub record Holds {D : Type 0} (d : Ghosts D) (w : LaneWriter D) (generation : ℕ) (bodies : List (List ℕ)) : Type 0 where
+  pub even : generation % 2 ≡ 0
   pub gate : ℕ
   pub stage : stage_of w ≡ Open generation gate
   pub place : ForSome (d.content (disk_of w)) (λ bytes. gate ≡ length (lane_text generation (lane_of w) bodies))

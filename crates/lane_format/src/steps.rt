@@ -4,11 +4,14 @@ ghost use Rattle.std.specs.Prelude.{◌≡◌, ◌<◌, ◌≤◌, ◌^◌, ◌+
 ghost use Rattle.std.specs.Option.{ForSome, option_map};
 ghost use Rattle.std.specs.Int.{w16, w64, to_le_bytes};
 ghost use Rattle.causes.specs.Causes.{HasCause};
+ghost use Rattle.disk_core.specs.ChangeCalls.{Made, SyncCall, WriteCall};
 ghost use Rattle.disk_core.specs.Crash.{Follows, NothingPending, Tears};
 ghost use Rattle.disk_core.specs.Device.{written};
 ghost use Rattle.disk_core.specs.Moments.{LeavesNow, LeavesOnly};
 ghost use Rattle.lane_format.specs.Crash.{NotOpenOrEmpty, OldOrNotOpen, TornFrom, WithOrWithout};
-ghost use Rattle.lane_format.specs.Lane.{IsLane, IsNotOpen, emptied, extended, frame_text, lane_text, shut};
+ghost use Rattle.lane_format.specs.Lane.{IsBody, IsHead, IsLane, IsNotOpen};
+ghost use Rattle.lane_format.specs.Lane.{emptied, extended, frame_text, lane_text, shut};
+ghost use Rattle.lane_format.specs.Plans.{append_calls, close_calls, reset_calls};
 
 use disk_core::{Disk, Failed};
 
@@ -22,7 +25,9 @@ pub(crate) const FIRST_GATE: u64 = 11;
 /// Writes these bytes and brings them to where a crash leaves them.
 fn put<D: Disk>(disk: &mut D, at: u64, bytes: &[u8]) -> Result<(), Failed>
     requires { ForSome (D.content disk.old) (λ old. at ≤ length old) }
-    ensures written { OnOk result (D.content disk.new ≡ option_map (written at bytes.now) (D.content disk.old)) }
+    ensures written { OnOk result
+        (D.content disk.new ≡ option_map (written at bytes.now) (D.content disk.old)) }
+    ensures calls { Made (WriteCall at bytes.now ∷ SyncCall ∷ []) result (D.calls disk.old) (D.calls disk.new) }
     ensures told { IsSome (D.content disk.old) → IsSome (D.content disk.new) }
     ensures durable { OnOk result (NothingPending (D.content disk.new) (D.may_leave disk.new)) }
     ensures crash { Follows (Tears at bytes.now) (D.may_leave disk.old) (D.may_leave disk.new) }
@@ -36,6 +41,7 @@ fn put<D: Disk>(disk: &mut D, at: u64, bytes: &[u8]) -> Result<(), Failed>
 /// Closes the file's gate.
 pub(crate) fn close<D: Disk>(disk: &mut D) -> Result<(), Failed>
     ensures shut { OnOk result (D.content disk.new ≡ option_map shut (D.content disk.old)) }
+    ensures calls { Made close_calls result (D.calls disk.old) (D.calls disk.new) }
     ensures told { IsSome (D.content disk.old) → IsSome (D.content disk.new) }
     ensures durable { OnOk result (NothingPending (D.content disk.new) (D.may_leave disk.new)) }
     ensures moments { LeavesOnly D.Disk disk.old disk.new (OldOrNotOpen D.Disk disk.old) }
@@ -46,8 +52,12 @@ pub(crate) fn close<D: Disk>(disk: &mut D) -> Result<(), Failed>
 
 /// Makes the file an open lane with no batch.
 pub(crate) fn reset<D: Disk>(disk: &mut D, generation: u64, lane: u16) -> Result<(), Failed>
-    requires { ForSome (D.content disk.old) (λ bytes. 0 < length bytes) }
-    ensures empty { OnOk result (D.content disk.new ≡ option_map (emptied generation lane) (D.content disk.old)) }
+    requires gate { ForSome (D.content disk.old) (λ bytes. 0 < length bytes) }
+    requires some { 1 ≤ generation }
+    ensures empty { OnOk result
+        (D.content disk.new ≡ option_map (emptied generation lane) (D.content disk.old)) }
+    ensures head { IsHead generation lane }
+    ensures calls { Made (reset_calls generation lane) result (D.calls disk.old) (D.calls disk.new) }
     ensures told { IsSome (D.content disk.old) → IsSome (D.content disk.new) }
     ensures durable { OnOk result (NothingPending (D.content disk.new) (D.may_leave disk.new)) }
     ensures moments { LeavesNow D.Disk disk.old IsNotOpen
@@ -71,11 +81,13 @@ fn header(generation: u64, lane: u16) -> [u8; 11]
 pub(crate) fn append<D: Disk>(disk: &mut D, gate: u64, frame: &[u8]) -> Result<(), Failed>
     requires inside { ForSome (D.content disk.old) (λ bytes. gate < length bytes) }
     requires near { gate ≤ 2 ^ 62 }
-    ensures extended { OnOk result (D.content disk.new ≡ option_map (extended gate frame.now) (D.content disk.old)) }
+    ensures extended { OnOk result
+        (D.content disk.new ≡ option_map (extended gate frame.now) (D.content disk.old)) }
+    ensures calls { Made (append_calls gate frame.now) result (D.calls disk.old) (D.calls disk.new) }
     ensures told { IsSome (D.content disk.old) → IsSome (D.content disk.new) }
     ensures durable { OnOk result (NothingPending (D.content disk.new) (D.may_leave disk.new)) }
     ensures moments { (generation lane : ℕ) (bodies : List (List ℕ)) (body : List ℕ)
-        → gate ≡ length (lane_text generation lane bodies) → frame.now ≡ frame_text body
+        → gate ≡ length (lane_text generation lane bodies) → frame.now ≡ frame_text body → IsBody body
         → LeavesNow D.Disk disk.old (IsLane generation lane bodies)
         → LeavesOnly D.Disk disk.old disk.new (WithOrWithout generation lane bodies body) }
     ensures cause { HasCause (D.faults disk.old) (D.faults disk.new) result }

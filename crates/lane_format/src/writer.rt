@@ -42,8 +42,10 @@ impl<D: Disk> LaneWriter<D> {
     ghost use Rattle.std.specs.Option.{ForSome, option_map};
     ghost use Rattle.disk_core.specs.Moments.{LeavesNow, LeavesOnly};
     ghost use Rattle.lane_format.specs.Crash.{NotOpenOrEmpty, OldOrNotOpen, WithOrWithout};
-    ghost use Rattle.lane_format.specs.Lane.{IsLane, IsNotOpen, body_of, lane_text, shut};
-    ghost use Rattle.lane_format.specs.Writer.{Holds, IsFailed, IsNear, IsSettled, IsShut, KeepsFault, even_file, disk_of, lane_of, stage_of};
+    ghost use Rattle.lane_format.specs.Lane.{IsLane, IsNotOpen, body_of, frame_text, lane_text, shut};
+    ghost use Rattle.lane_format.specs.Plans.{Carries, append_calls, close_calls, reset_calls};
+    ghost use Rattle.lane_format.specs.Writer.{Holds, IsFailed, IsNear, IsSettled, IsShut, KeepsFault};
+    ghost use Rattle.lane_format.specs.Writer.{disk_of, even_file, lane_of, stage_of};
 
     /// Takes over a file of which nothing is known: it has to be closed first.
     pub fn adopt(disk: D, lane: u16) -> LaneWriter<D>
@@ -62,6 +64,7 @@ impl<D: Disk> LaneWriter<D> {
     /// `gate` inside the file. The next batch goes there.
     pub fn adopt_open(disk: D, lane: u16, generation: u64, gate: u64) -> LaneWriter<D>
         requires near { gate ≤ 2 ^ 62 }
+        requires even { generation % 2 ≡ 0 }
         requires open { ForSome (D.content disk) (λ bytes. (bodies : List (List ℕ))
             × (gate ≡ length (lane_text generation lane bodies)) × IsLane generation lane bodies bytes) }
         ensures disk { disk_of result ≡ disk }
@@ -101,10 +104,12 @@ impl<D: Disk> LaneWriter<D> {
         ensures content { OnOk result
             (D.content (disk_of self.new) ≡ option_map shut (D.content (disk_of self.old))) }
 
+        // What was called, and how it ended.
+        ensures calls { Carries D.Disk self.old self.new close_calls result }
         ensures fault { KeepsFault D.Disk self.old self.new result }
 
-        // A crash at any moment of the call, or after it, leaves what it might have left before, or a file that
-        // isn't open.
+        // A crash at any moment of the call, or after it, leaves what it might have left before, or a file
+        // that isn't open.
         ensures moments { LeavesOnly D.Disk (disk_of self.old) (disk_of self.new)
             (OldOrNotOpen D.Disk (disk_of self.old)) }
         ensures crash { IsSome (D.content (disk_of self.old))
@@ -128,6 +133,8 @@ impl<D: Disk> LaneWriter<D> {
         ensures empty { OnOk result (Holds D.Disk self.new generation []) }
         ensures stage { OnOk result (stage_of self.new ≡ Stage.Open generation 11) }
 
+        // What was called, and how it ended.
+        ensures calls { Carries D.Disk self.old self.new (reset_calls generation (lane_of self.old)) result }
         ensures fault { KeepsFault D.Disk self.old self.new result }
 
         // A crash at any moment of the call, or after it, leaves a file that isn't open, or the empty lane.
@@ -148,12 +155,12 @@ impl<D: Disk> LaneWriter<D> {
         self.finish(done, next)
     }
 
-    /// Appends one batch, and brings it to where a crash leaves it. Its body is the frame without its first four
-    /// bytes, which this call fills with the body's length, and without its last one, which it fills with a closed
-    /// gate.
+    /// Appends one batch, and brings it to where a crash leaves it. Its body is the frame without its first
+    /// four bytes, which this call fills with the body's length, and without its last one, which it fills with a
+    /// closed gate.
     pub fn force(&mut self, frame: &mut [u8]) -> Result<(), LaneFault>
-        requires open { ((generation : ℕ) × (bodies : List (List ℕ)) × Holds D.Disk self.old generation bodies)
-            ⊎ IsFailed self.old }
+        requires open { ((generation : ℕ) × (bodies : List (List ℕ))
+            × Holds D.Disk self.old generation bodies) ⊎ IsFailed self.old }
         requires near { IsNear self.old }
         requires room { 6 ≤ length frame.old }
         requires short { length frame.old ≤ 2 ^ 31 }
@@ -165,13 +172,21 @@ impl<D: Disk> LaneWriter<D> {
         ensures stage { OnOk result ((generation gate : ℕ) → stage_of self.old ≡ Stage.Open generation gate
             → stage_of self.new ≡ Stage.Open generation (gate + length frame.old)) }
 
+        // What it leaves in the frame, what was called, and how it ended.
+        ensures frame { ¬ (IsFailed self.old) → frame.new ≡ frame_text (body_of frame.old) }
+        ensures kept { IsFailed self.old → frame.new ≡ frame.old }
+        ensures calls { (generation gate : ℕ) → stage_of self.old ≡ Stage.Open generation gate
+            → Carries D.Disk self.old self.new (append_calls gate (frame_text (body_of frame.old))) result }
         ensures fault { KeepsFault D.Disk self.old self.new result }
 
-        // A crash at any moment of the call, or after it, leaves the batches from before, with this one or without.
-        ensures moments { (generation : ℕ) (bodies : List (List ℕ)) → IsSettled D.Disk self.old generation bodies
+        // A crash at any moment of the call, or after it, leaves the batches from before, with this one or
+        // without.
+        ensures moments { (generation : ℕ) (bodies : List (List ℕ))
+            → IsSettled D.Disk self.old generation bodies
             → LeavesOnly D.Disk (disk_of self.old) (disk_of self.new)
             (WithOrWithout generation (lane_of self.old) bodies (body_of frame.old)) }
-        ensures crash { (generation : ℕ) (bodies : List (List ℕ)) → IsSettled D.Disk self.old generation bodies
+        ensures crash { (generation : ℕ) (bodies : List (List ℕ))
+            → IsSettled D.Disk self.old generation bodies
             → LeavesNow D.Disk (disk_of self.new)
             (WithOrWithout generation (lane_of self.old) bodies (body_of frame.old)) }
         ensures durable { OnOk result ((generation : ℕ) (bodies : List (List ℕ))

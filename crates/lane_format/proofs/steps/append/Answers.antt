@@ -1,14 +1,16 @@
 use Rattle.std.proofs.Common.{◌∷◌, [], ◌+◌, ◌<◌, length, ◌∙◌, inl, ap, arith, refl}
 use Rattle.std.specs.Option.{option_map}
 use Rattle.disk_core.specs.Device.{written}
+use Rattle.disk_core.specs.ChangeCalls.{SyncCall, WriteCall}
 use Rattle.disk_core.proofs.Moments.{joined, weaker}
+use Rattle.disk_core.proofs.Plans.{stopped_before, then_made}
 use Rattle.lane_format.specs.Crash.{TornFrom, WithOrWithout}
 use Rattle.lane_format.proofs.Crash.{after_frame, no_shorter, opened_batch, opened_or_old}
 use Rattle.lane_format.proofs.Left.{only_written, some_of}
 use Rattle.lane_format.proofs.steps.append.Goals as goal
 
 pub returns-in_err-put-clause-moments : goal.returns-in_err-put-clause-moments
-returns-in_err-put-clause-moments g c = λ generation lane bodies body place spelled lanes.
+returns-in_err-put-clause-moments g c = λ generation lane bodies body place spelled fits lanes.
     let D = g.D.Disk in
     let old = c.args.disk.now in
     let frame = c.args.frame.now in
@@ -16,7 +18,7 @@ returns-in_err-put-clause-moments g c = λ generation lane bodies body place spe
     (λ image torn. inl (after_frame generation lane bodies c.args.gate place (D.may_leave old) frame lanes.each image torn)) c.put.ensures.moments
 
 pub returns-clause-moments : goal.returns-clause-moments
-returns-clause-moments g c = λ generation lane bodies body place spelled lanes.
+returns-clause-moments g c = λ generation lane bodies body place spelled fits lanes.
     let D = g.D.Disk in
     let old = c.args.disk.now in
     let mid = c.put.new.disk in
@@ -33,5 +35,15 @@ returns-clause-moments g c = λ generation lane bodies body place spelled lanes.
     let before = lanes.each bytes.0 (g.met.D.Disk.leaves_as_read old bytes.0 bytes.1) in
     let behind = after_frame generation lane bodies gate place (D.may_leave old) frame lanes.each file (c.put.ensures.crash file (g.met.D.Disk.leaves_as_read mid file told)) in
     let second = weaker D mid c.put-2.new.disk (TornFrom (D.may_leave mid) gate (1 ∷ [])) P
-    (λ image torn. opened_batch generation lane bodies gate place body frame file bytes.0 image spelled refl before behind (opened_or_old gate file (D.may_leave mid) inside only image torn)) c.put-2.ensures.moments in
+    (λ image torn. opened_batch generation lane bodies gate place body frame file bytes.0 image spelled fits refl before behind (opened_or_old gate file (D.may_leave mid) inside only image torn)) c.put-2.ensures.moments in
     joined D old mid c.put-2.new.disk P first second
+
+pub returns-clause-calls : goal.returns-clause-calls
+returns-clause-calls g c =
+    let D = g.D.Disk in
+    then_made (WriteCall (c.args.gate + 1) c.args.frame.now ∷ SyncCall ∷ []) (WriteCall c.args.gate (1 ∷ []) ∷ SyncCall ∷ []) c.put-2.result (D.calls c.args.disk.now) (D.calls c.put.new.disk) (D.calls c.put-2.new.disk) c.in_ok-put.ensures.calls c.put-2.ensures.calls
+
+pub returns-in_err-put-clause-calls : goal.returns-in_err-put-clause-calls
+returns-in_err-put-clause-calls g c =
+    let D = g.D.Disk in
+    stopped_before (WriteCall (c.args.gate + 1) c.args.frame.now ∷ SyncCall ∷ []) (WriteCall c.args.gate (1 ∷ []) ∷ SyncCall ∷ []) c.from_residual.result (D.calls c.args.disk.now) (D.calls c.put.new.disk) c.from_residual.ensures.0 c.in_err-put.ensures.calls

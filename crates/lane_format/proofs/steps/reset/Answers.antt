@@ -3,7 +3,9 @@ use Rattle.std.proofs.lemmas.Result.{on_ok_weaker}
 use Rattle.std.specs.Option.{option_map}
 use Rattle.std.specs.Int.{w16, w64, to_le_bytes}
 use Rattle.disk_core.specs.Device.{written}
+use Rattle.disk_core.specs.ChangeCalls.{Made, SyncCall, WriteCall}
 use Rattle.disk_core.proofs.Moments.{joined, weaker}
+use Rattle.disk_core.proofs.Plans.{stopped_before, then_made}
 use Rattle.lane_format.specs.Lane.{emptied}
 use Rattle.lane_format.specs.Crash.{NotOpenOrEmpty, TornFrom}
 use Rattle.lane_format.proofs.Crash.{after_header, no_shorter, opened_empty, opened_or_old}
@@ -18,7 +20,7 @@ returns-clause-empty g c =
     let start = content c.args.disk.now in
     let behind = to_le_bytes w64 c.args.generation ++ to_le_bytes w16 c.args.lane ++ 0 ∷ [] in
     let header : content c.put.new.disk ≡ option_map (written 1 behind) start = subst (λ b. content c.put.new.disk ≡ option_map (written 1 b) start) c.header.ensures c.in_ok-put.ensures.written in
-    let both = changed_twice (written 1 behind) (written 0 (1 ∷ [])) (emptied c.args.generation c.args.lane) start (λ bytes. 0 < length bytes) c.requires (header_then_gate c.args.generation c.args.lane) in
+    let both = changed_twice (written 1 behind) (written 0 (1 ∷ [])) (emptied c.args.generation c.args.lane) start (λ bytes. 0 < length bytes) c.requires.gate (header_then_gate c.args.generation c.args.lane) in
     on_ok_weaker c.put-2.result (λ gate. gate ∙ ap (option_map (written 0 (1 ∷ []))) header ∙ both) c.put-2.ensures.written
 
 pub returns-clause-moments : goal.returns-clause-moments
@@ -33,9 +35,21 @@ returns-clause-moments g c = λ closed.
     let file = written 1 header bytes.0 in
     let told = c.in_ok-put.ensures.written ∙ ap (option_map (written 1 header)) bytes.1 in
     let only = only_written 1 header bytes.0 (D.content old) (D.content mid) (D.may_leave mid) bytes.1 c.in_ok-put.ensures.written c.in_ok-put.ensures.durable in
-    let some : 0 < length bytes.0 = c.requires bytes.0 bytes.1 in
+    let some : 0 < length bytes.0 = c.requires.gate bytes.0 bytes.1 in
     let inside : 0 < length file = omega (arith, some, no_shorter 1 header bytes.0) in
     let shut = after_header (D.may_leave old) header closed.each file (c.put.ensures.crash file (g.met.D.Disk.leaves_as_read mid file told)) in
     let second = weaker D mid c.put-2.new.disk (TornFrom (D.may_leave mid) 0 (1 ∷ [])) P
-    (λ image torn. opened_empty c.args.generation c.args.lane header file bytes.0 image c.header.ensures refl some shut (opened_or_old 0 file (D.may_leave mid) inside only image torn)) c.put-2.ensures.moments in
+    (λ image torn. opened_empty c.args.generation c.args.lane header file bytes.0 image c.header.ensures refl some (record { some = c.requires.some; fits = c.ranges.generation.fits; lane_fits = c.ranges.lane.fits }) shut (opened_or_old 0 file (D.may_leave mid) inside only image torn)) c.put-2.ensures.moments in
     joined D old mid c.put-2.new.disk P first second
+
+pub returns-clause-calls : goal.returns-clause-calls
+returns-clause-calls g c =
+    let D = g.D.Disk in
+    subst (λ header. Made (WriteCall 1 header ∷ SyncCall ∷ WriteCall 0 (1 ∷ []) ∷ SyncCall ∷ []) c.put-2.result (D.calls c.args.disk.now) (D.calls c.put-2.new.disk)) c.header.ensures
+    (then_made (WriteCall 1 c.header.result ∷ SyncCall ∷ []) (WriteCall 0 (1 ∷ []) ∷ SyncCall ∷ []) c.put-2.result (D.calls c.args.disk.now) (D.calls c.put.new.disk) (D.calls c.put-2.new.disk) c.in_ok-put.ensures.calls c.put-2.ensures.calls)
+
+pub returns-in_err-put-clause-calls : goal.returns-in_err-put-clause-calls
+returns-in_err-put-clause-calls g c =
+    let D = g.D.Disk in
+    subst (λ header. Made (WriteCall 1 header ∷ SyncCall ∷ WriteCall 0 (1 ∷ []) ∷ SyncCall ∷ []) c.from_residual.result (D.calls c.args.disk.now) (D.calls c.put.new.disk)) c.header.ensures
+    (stopped_before (WriteCall 1 c.header.result ∷ SyncCall ∷ []) (WriteCall 0 (1 ∷ []) ∷ SyncCall ∷ []) c.from_residual.result (D.calls c.args.disk.now) (D.calls c.put.new.disk) c.from_residual.ensures.0 c.in_err-put.ensures.calls)

@@ -5,7 +5,7 @@ use Rattle.lane_format.specs.Lane.{extended, frame_text, body_of, IsLane, lane_t
 use Rattle.lane_format.specs.Writer.{lane_of}
 use Rattle.lane_format.proofs.Left.{both_ok, now_as_told}
 use Rattle.lane_format.proofs.Told.{at_done, told_after}
-use Rattle.lane_format.proofs.Lanes.{gate_inside, grown, length-push, length-frame_text}
+use Rattle.lane_format.proofs.Lanes.{body_fits, gate_inside, grown, length-push, length-frame_text}
 use Rattle.lane_format.specs.declared.writer.Stage.TheVariants.{Open}
 use Rattle.lane_format.proofs.writer.LaneWriter.force.Goals as goal
 
@@ -33,6 +33,7 @@ returns-clause-appended g c = at_done _ _ c.append-done.result c.finish.result c
     let changed : content c.finish.new.self.disk ≡ option_map (extended gate (frame_text body)) (content c.args.self.now.disk) =
     ap content c.finish.ensures.disk ∙ extended_is ∙ ap (λ (f : List ℕ). option_map (extended gate f) (content c.args.self.now.disk)) c.fill.ensures in
     record {
+      even = holds.even;
       gate = gate + length frame;
       stage = ok.1 ∙ ap (λ (n : ℕ). Open c.in-Open.generation (gate + n)) size ∙ ap (λ (n : ℕ). Open n (gate + length frame)) (sym same_generation);
       place = told_after (extended gate (frame_text body)) (content c.args.self.now.disk) (content c.finish.new.self.disk) (λ x. gate ≡ length (lane_text generation lane bodies)) (λ x. gate + length frame ≡ length (lane_text generation (lane_of c.finish.new.self) (bodies ++ body ∷ []))) changed
@@ -40,7 +41,7 @@ returns-clause-appended g c = at_done _ _ c.append-done.result c.finish.result c
           (λ x is. rw c.finish.ensures.lane (omega (arith, length-push generation lane bodies body, length-frame_text frame c.requires.room, is)));
       file = told_after (extended gate (frame_text body)) (content c.args.self.now.disk) (content c.finish.new.self.disk) (λ x. (gate ≡ length (lane_text generation lane bodies)) × IsLane generation lane bodies x) (IsLane generation (lane_of c.finish.new.self) (bodies ++ body ∷ [])) changed
           (λ x told. (sym same ∙ holds.place x told, holds.file x told))
-          (λ x is. rw c.finish.ensures.lane (grown generation lane bodies gate body x is.0 is.1));
+          (λ x is. rw c.finish.ensures.lane (grown generation lane bodies gate body x is.0 (body_fits frame c.requires.room c.requires.short) is.1));
     })
 
 pub returns-clause-durable : goal.returns-clause-durable

@@ -15,11 +15,12 @@ returns-clause-empty g c = at_done _ _ c.reset-done.result c.finish.result c.res
     let lane = c.args.self.now.lane in
     let changed : content c.finish.new.self.disk ≡ option_map (emptied generation lane) (content c.args.self.now.disk) = ap content c.finish.ensures.disk ∙ empty in
     record {
+      even = c.requires.even;
       gate = 11;
       stage = ok.1;
       place = λ x told. sym (ap (λ (n : ℕ). length (lane_text generation n [])) c.finish.ensures.lane ∙ length-empty generation lane);
       file = told_after (emptied generation lane) (content c.args.self.now.disk) (content c.finish.new.self.disk) (λ _. Unit {0}) (IsLane generation (lane_of c.finish.new.self) []) changed (λ _ _. tt)
-          (λ x _. rw c.finish.ensures.lane (empty_lane generation lane x));
+          (λ x _. rw c.finish.ensures.lane (empty_lane generation lane x c.reset-done.ensures.head));
     })
 
 pub returns-clause-durable : goal.returns-clause-durable
