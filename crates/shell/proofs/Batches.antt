@@ -2,13 +2,13 @@
 use Rattle.std.proofs.Common.{◌≡◌, ◌≢◌, ℕ, ◌+◌, ◌-◌, ◌*◌, ◌<◌, ◌≤◌, ℤ, true, is_some, List, [], ◌∷◌, ◌++◌, length, map, take, drop, get_or, refl, sym, ◌∙◌, ap, subst, append_assoc, arith, inl, inr}
 use Rattle.std.specs.BTreeMap.{BTreeMap}
 use Rattle.std.specs.Int.{w32, w64, cast_signed, cast_unsigned, from_le_bytes, to_le_bytes}
-use Rattle.std.specs.List.{flat_map}
+use Rattle.std.specs.List.{AllByRecursion, flat_map}
 use Rattle.std.proofs.lemmas.Int.{of_z-to_z}
 use Rattle.std.proofs.lemmas.Nat.{le_bytes_8}
 use Rattle.std.proofs.lemmas.List.{take-append-drop, take-append-le, take_all, length-drop, length-append, append-nil, map-append}
 use Rattle.std.proofs.lemmas.Grind.{flat_map-append}
 use Rattle.std.proofs.lemmas.Bool.{cases_eq}
-use Rattle.lane_format.specs.Lane.{batch_text, header_text}
+use Rattle.lane_format.specs.Lane.{IsBody, IsLane, batch_text, header_text}
 use Rattle.shell.specs.Keeping.{IsMapOf}
 use Rattle.shell.specs.Kv.{FitsPair, Pairs, pair_body, value_of}
 use Rattle.shell.specs.Log.{Breaks, MayBeLogged, gate_place, last_end, log_text}
@@ -37,6 +37,22 @@ gate_open (gate ∷ rest) some unclosed =
 pub length-pair_body : (pair : ℤ × ℤ) → length (pair_body pair) ≡ 16
 unfolding pair_body
 length-pair_body pair = refl
+
+-- a pair's batches stand in a lane of generation 2
+pub pairs_are_bodies : (pairs : Pairs) → AllByRecursion IsBody (map pair_body pairs)
+pairs_are_bodies [] = tt
+pairs_are_bodies (pair ∷ pairs) = ((omega (arith, length-pair_body pair), omega (arith, length-pair_body pair)), pairs_are_bodies pairs)
+
+-- a log in a file, with what stands behind its gate
+pub log_lane : (pairs : Pairs) (gate : ℕ) (rest bytes : List ℕ) → gate ≢ 1 → bytes ≡ log_text pairs ++ gate ∷ rest → IsLane 2 0 (map pair_body pairs) bytes
+log_lane pairs gate rest bytes closed text = record {
+  head = record { some = omega arith; fits = omega arith; lane_fits = omega arith };
+  bodies_fit = pairs_are_bodies pairs;
+  gate = gate;
+  rest = rest;
+  closed = closed;
+  text = text;
+}
 
 -- a batch by its parts
 pub batch_is : (bytes : List ℕ) (pair : ℤ × ℤ) → bytes ≡ 1 ∷ drop 1 bytes → take 4 (drop 1 bytes) ≡ to_le_bytes w32 16 → drop 4 (drop 1 bytes) ≡ pair_body pair → bytes ≡ batch_text (pair_body pair)

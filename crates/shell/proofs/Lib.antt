@@ -9,7 +9,6 @@ pub mod Lines
 pub mod Batches
 pub mod Pairs
 pub mod Pieces
-pub mod AsWas
 pub mod Securing
 pub mod Lasting
 pub mod Ending

@@ -5,14 +5,14 @@ use Rattle.std.proofs.lemmas.Grind.{flat_map-append}
 use Rattle.std.specs.List.{AllByRecursion, flat_map}
 use Rattle.shell.specs.Script.{Fits, statement_text}
 use Rattle.shell.specs.ReadScript.{LinesSoFar}
-use Rattle.shell.specs.declared.statement.Statement.{Statement}
-use Rattle.shell.specs.declared.statement.Statement.TheVariants.{Insert, Select}
+use Rattle.shell.specs.declared.statement.KvStatement.{KvStatement}
+use Rattle.shell.specs.declared.statement.KvStatement.TheVariants.{Insert, Select}
 
 pub no_lines : (text : List ℕ) → LinesSoFar text [] text
 no_lines text = record { text_is = refl; fits = tt; only = λ all fits is. (all, fits, refl, is) }
 
 -- no line is empty
-pub line_has_bytes : (s : Statement) → 0 < length (statement_text s)
+pub line_has_bytes : (s : KvStatement) → 0 < length (statement_text s)
 unfolding statement_text
 line_has_bytes (Insert key value) = omega arith
 line_has_bytes (Select key) = omega arith
@@ -21,30 +21,30 @@ pub all_push : {A : Type 0} (P : A → Type 0) (xs : List A) (y : A) → AllByRe
 all_push P [] y all one = (one, tt)
 all_push P (x ∷ xs) y all one = (all.0, all_push P xs y all.1 one)
 
-module _ (text : List ℕ) (statements : List Statement) (rest : List ℕ) (so_far : LinesSoFar text statements rest) where
+module _ (text : List ℕ) (statements : List KvStatement) (rest : List ℕ) (so_far : LinesSoFar text statements rest) where
   -- at the end of the text there are no further statements
-  pub no_more : rest ≡ [] → (all : List Statement) → AllByRecursion Fits all → text ≡ flat_map statement_text all → statements ≡ all
+  pub no_more : rest ≡ [] → (all : List KvStatement) → AllByRecursion Fits all → text ≡ flat_map statement_text all → statements ≡ all
   no_more none all fits is =
       let more = so_far.only all fits is in
       go more.0 (sym none ∙ more.3) more.2
     where
-      go : (more : List Statement) → [] ≡ flat_map statement_text more → all ≡ statements ++ more → statements ≡ all
+      go : (more : List KvStatement) → [] ≡ flat_map statement_text more → all ≡ statements ++ more → statements ≡ all
       go [] empty all_is = sym (all_is ∙ append-nil statements)
       go (s ∷ more) empty all_is = absurd (omega (arith, ap length empty, length-append (statement_text s) (flat_map statement_text more), line_has_bytes s))
 
   -- where the rest is some lines, they begin with a statement
-  pub one_more : {X : Type 0} (all : List Statement) → (rest ≡ [] → ⊥) → AllByRecursion Fits all → text ≡ flat_map statement_text all → ((s : Statement) (behind : List ℕ) → Fits s → rest ≡ statement_text s ++ behind → X) → X
+  pub one_more : {X : Type 0} (all : List KvStatement) → (rest ≡ [] → ⊥) → AllByRecursion Fits all → text ≡ flat_map statement_text all → ((s : KvStatement) (behind : List ℕ) → Fits s → rest ≡ statement_text s ++ behind → X) → X
   one_more {X} all some fits is next =
       let more = so_far.only all fits is in
       go more.0 more.1 more.3
     where
-      go : (more : List Statement) → AllByRecursion Fits more → rest ≡ flat_map statement_text more → X
+      go : (more : List KvStatement) → AllByRecursion Fits more → rest ≡ flat_map statement_text more → X
       go [] fits rest_is = absurd (some rest_is)
       go (s ∷ more) fits rest_is = next s (flat_map statement_text more) fits.0 rest_is
 
   -- one more line is read
-  pub line_read : (s : Statement) (behind : List ℕ) → Fits s → rest ≡ statement_text s ++ behind
-      → ((t : Statement) (after : List ℕ) → Fits t → rest ≡ statement_text t ++ after → (s ≡ t) × (behind ≡ after))
+  pub line_read : (s : KvStatement) (behind : List ℕ) → Fits s → rest ≡ statement_text s ++ behind
+      → ((t : KvStatement) (after : List ℕ) → Fits t → rest ≡ statement_text t ++ after → (s ≡ t) × (behind ≡ after))
       → (rest ≡ [] → ⊥) → LinesSoFar text (statements ++ s ∷ []) behind
   line_read s behind fits_s rest_is unique some = record {
     text_is =
@@ -54,9 +54,9 @@ module _ (text : List ℕ) (statements : List Statement) (rest : List ℕ) (so_f
     only = λ all fits is. let more = so_far.only all fits is in go all more.0 more.1 more.2 more.3;
   }
     where
-      go : (all more : List Statement) → AllByRecursion Fits more → all ≡ statements ++ more → rest ≡ flat_map statement_text more
-          → (more' : List Statement) × AllByRecursion Fits more' × (all ≡ (statements ++ s ∷ []) ++ more') × (behind ≡ flat_map statement_text more')
+      go : (all more : List KvStatement) → AllByRecursion Fits more → all ≡ statements ++ more → rest ≡ flat_map statement_text more
+          → (more' : List KvStatement) × AllByRecursion Fits more' × (all ≡ (statements ++ s ∷ []) ++ more') × (behind ≡ flat_map statement_text more')
       go all [] fits all_is rest_more = absurd (some rest_more)
       go all (t ∷ more) fits all_is rest_more =
           let same = unique t (flat_map statement_text more) fits.0 rest_more in
-          (more, fits.1, all_is ∙ ap (λ (x : Statement). statements ++ x ∷ more) (sym same.0) ∙ sym (append_assoc statements (s ∷ []) more), same.1)
+          (more, fits.1, all_is ∙ ap (λ (x : KvStatement). statements ++ x ∷ more) (sym same.0) ∙ sym (append_assoc statements (s ∷ []) more), same.1)

@@ -5,6 +5,7 @@ use Rattle.std.specs.BTreeMap.{BTreeMap, get, btree_map_len}
 use Rattle.std.proofs.lemmas.Bool.Decides.{Decides-int_eq, nat_tests}
 use Rattle.std.proofs.lemmas.Int.{to_z-of_z}
 use Rattle.std.proofs.lemmas.List.{length-append, map-append}
+use Rattle.disk_core.specs.declared.disk.Disk.{Ghosts}
 use Rattle.lane_format.specs.Writer.{Holds, lane_of, stage_of}
 use Rattle.lane_format.specs.declared.writer.Stage.TheVariants.{Open}
 use Rattle.shell.specs.Kv.{FitsPair, Pairs, is_full, log_limit, pair_body, pairs_after, reply_to, used_bytes, value_of}
@@ -12,7 +13,7 @@ use Rattle.shell.specs.Keeping.{IsMapOf, Keeps}
 use Rattle.shell.specs.Log.{MayBeLogged, NoKeyTwice, gate_place, last_end}
 use Rattle.shell.proofs.Lines.{all_push}
 use Rattle.shell.specs.declared.reply.Reply.TheVariants.{Inserted, LogFull}
-use Rattle.shell.specs.declared.statement.Statement.TheVariants.{Insert}
+use Rattle.shell.specs.declared.statement.KvStatement.TheVariants.{Insert}
 use Rattle.shell.specs.declared.session.Session.{Session}
 
 pub eq_cases : (x y : ℤ) → ((x ≡ y) × (int_eq x y ≡ true)) ⊎ ((x ≡ y → ⊥) × (int_eq x y ≡ false))
@@ -87,7 +88,7 @@ map-push old new pairs key value absent updates count is = record {
   count = omega (arith, count, is.count, length-append pairs ((key, value) ∷ []));
 }
 
-module _ {D : Type 0} (content : D → Option (List ℕ)) (old : Session D) (pairs : Pairs) (key value : ℤ) (keeps : Keeps content old pairs) (absent : is_some (value_of pairs key) ≡ false) where
+module _ {D : Type 0} (d : Ghosts D) (old : Session D) (pairs : Pairs) (key value : ℤ) (keeps : Keeps d old pairs) (absent : is_some (value_of pairs key) ≡ false) where
   -- an insert is refused where the log file is full
   pub log_full : log_limit < used_bytes pairs → (LogFull (used_bytes pairs) ≡ reply_to pairs (Insert key value)) × (pairs ≡ pairs_after pairs (Insert key value))
   log_full full =
@@ -102,7 +103,7 @@ module _ {D : Type 0} (content : D → Option (List ℕ)) (old : Session D) (pai
 
   -- and then the session keeps one pair more
   pub one_pair_more : (new : Session D) → FitsPair (key, value) → used_bytes pairs ≤ log_limit → ((q : ℤ) → get int_cmp new.pairs q ≡ cond (int_eq key q) (Some value) (get int_cmp old.pairs q)) → btree_map_len new.pairs ≡ btree_map_len old.pairs + 1
-      → lane_of new.writer ≡ lane_of old.writer → stage_of new.writer ≡ Open 2 (gate_place (length pairs) + 21) → Holds content new.writer 2 (map pair_body pairs ++ pair_body (key, value) ∷ []) → Keeps content new (pairs ++ (key, value) ∷ [])
+      → lane_of new.writer ≡ lane_of old.writer → stage_of new.writer ≡ Open 2 (gate_place (length pairs) + 21) → Holds d new.writer 2 (map pair_body pairs ++ pair_body (key, value) ∷ []) → Keeps d new (pairs ++ (key, value) ∷ [])
   one_pair_more new fits room updates count lane stage file =
       let none = none_there (value_of pairs key) absent in
       let place : gate_place (length pairs) + 21 ≡ gate_place (length (pairs ++ (key, value) ∷ [])) = omega (arith, length-append pairs ((key, value) ∷ [])) in
@@ -111,5 +112,5 @@ module _ {D : Type 0} (content : D → Option (List ℕ)) (old : Session D) (pai
         logged = logged-push pairs key value none fits (omega (arith, room)) keeps.logged;
         lane = lane ∙ keeps.lane;
         stage = stage ∙ ap (λ (n : ℕ). Open 2 n) place;
-        file = subst (λ (l : List (List ℕ)). Holds content new.writer 2 l) (sym (map-append pair_body pairs ((key, value) ∷ []))) file;
+        file = subst (λ (l : List (List ℕ)). Holds d new.writer 2 l) (sym (map-append pair_body pairs ((key, value) ∷ []))) file;
       }

@@ -11,14 +11,14 @@ use Rattle.shell.specs.Log.{BreaksOff}
 use Rattle.shell.specs.Opening.{Adds, Comes, HasClosedGate, Reached, Stands, batches_text}
 use Rattle.shell.specs.declared.reading.Front.{Front}
 use Rattle.shell.specs.declared.reading.Front.TheVariants as front
-use Rattle.shell.proofs.Batches.{end_breaks, length-batches, length-log, log_text-append}
+use Rattle.shell.proofs.Batches.{end_breaks, length-batches, length-log, log_lane, log_text-append}
 use Rattle.shell.proofs.Words.{of_told}
 
 -- a closed gate behind the log of some pairs
 pub ends_there : (pairs : Pairs) (bytes behind : List ℕ) → MayBeLogged pairs → bytes ≡ log_text pairs ++ behind → HasClosedGate behind → IsLogOf pairs bytes
 ends_there pairs bytes behind logged is closed = record {
   logged = logged;
-  lane = record { gate = closed.gate; rest = closed.rest; closed = closed.closed; text = is ∙ ap (λ (l : List ℕ). log_text pairs ++ l) closed.is };
+  lane = log_lane pairs closed.gate closed.rest bytes closed.closed (is ∙ ap (λ (l : List ℕ). log_text pairs ++ l) closed.is);
 }
 
 -- a piece of what stands behind the log of some pairs

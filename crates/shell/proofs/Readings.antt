@@ -8,10 +8,10 @@ use Rattle.std.proofs.lemmas.Nat.{from_le_bytes-to_le_bytes_8}
 use Rattle.std.proofs.lemmas.List.{append_cancel_left, take_at, drop_at, length-append, append-nil}
 use Rattle.lane_format.specs.Lane.{IsOpen, batch_text, header_text}
 use Rattle.shell.specs.Kv.{FitsPair, Pairs, pair_body, value_of}
-use Rattle.shell.specs.Log.{Breaks, IsDamaged, IsLogOf, LaneRead, MayBeLogged, NoKeyTwice, gate_place, lane_reads, last_end, log_text}
+use Rattle.shell.specs.Log.{Breaks, IsDamaged, IsLogOf, LogRead, MayBeLogged, NoKeyTwice, gate_place, log_reads, last_end, log_text}
 use Rattle.shell.specs.Log.{Damaged, Holding, NotOpen, BreaksOff, OtherHead, Short, CutShort, NoGate, OtherLength, SameKey, TooLate}
 use Rattle.shell.specs.Opening.{batches_text}
-use Rattle.shell.proofs.Batches.{length-batch, length-header, length-log, log_text-append}
+use Rattle.shell.proofs.Batches.{length-batch, length-header, length-log, log_lane, log_text-append}
 use Rattle.shell.proofs.Pairs.{eq_cases, logged-push}
 
 -- ---- a batch tells its pair
@@ -161,7 +161,7 @@ damaged_open bytes (Short gate short) = gate
 damaged_open bytes (OtherHead gate other) = gate
 damaged_open bytes (BreaksOff pairs behind logged text breaks) = log_open pairs bytes behind text
 
-pub at_most_one : (bytes : List ℕ) (a b : LaneRead) → lane_reads bytes a → lane_reads bytes b → a ≡ b
+pub at_most_one : (bytes : List ℕ) (a b : LogRead) → log_reads bytes a → log_reads bytes b → a ≡ b
 at_most_one bytes NotOpen NotOpen first second = refl
 at_most_one bytes NotOpen Damaged first second = absurd (first (damaged_open bytes second))
 at_most_one bytes NotOpen (Holding pairs) first second = absurd (first (log_open pairs bytes _ second.lane.text))
@@ -177,11 +177,6 @@ pub read_again : (pairs : Pairs) (pair : ℤ × ℤ) (gate : ℕ) (rest : List �
     → IsLogOf (pairs ++ pair ∷ []) (log_text pairs ++ batch_text (pair_body pair) ++ gate ∷ rest)
 read_again pairs pair gate rest logged fits absent room closed = record {
   logged = logged-push pairs pair.0 pair.1 absent fits room logged;
-  lane = record {
-    gate = gate;
-    rest = rest;
-    closed = closed;
-    text =
-        ap (λ (l : List ℕ). l ++ gate ∷ rest) (ap (λ (l : List ℕ). log_text pairs ++ l) (sym (append-nil (batch_text (pair_body pair)))) ∙ sym (log_text-append pairs (pair ∷ [])));
-  };
+  lane = log_lane (pairs ++ pair ∷ []) gate rest (log_text pairs ++ batch_text (pair_body pair) ++ gate ∷ rest) closed
+      (ap (λ (l : List ℕ). l ++ gate ∷ rest) (ap (λ (l : List ℕ). log_text pairs ++ l) (sym (append-nil (batch_text (pair_body pair)))) ∙ sym (log_text-append pairs (pair ∷ []))));
 }

@@ -3,8 +3,8 @@ use Rattle.std.proofs.Common.{◌≡◌, ℕ, ℤ, List, ◌++◌, get_or, Optio
 use Rattle.std.specs.Prelude.{codes}
 use Rattle.std.specs.Fmt.{signed_decimal}
 use Rattle.shell.specs.Script.{statement_text, Fits, BeginsWithInsert}
-use Rattle.shell.specs.declared.statement.Statement.{Statement}
-use Rattle.shell.specs.declared.statement.Statement.TheVariants.{Insert, Select}
+use Rattle.shell.specs.declared.statement.KvStatement.{KvStatement}
+use Rattle.shell.specs.declared.statement.KvStatement.TheVariants.{Insert, Select}
 
 pub insert_line : (key value : ℤ) (rest : List ℕ) → statement_text (Insert key value) ++ rest
     ≡ codes "INSERT INTO kv VALUES (" ++ (signed_decimal key ++ (codes ", " ++ (signed_decimal value ++ (codes ");\n" ++ rest))))
@@ -33,7 +33,7 @@ unfolding statement_text
 insert_apart key value k r rest same = absurd (let heads : ◌≡◌ {A = ℕ} 73 83 = ap (λ (l : List ℕ). get_or l 0 0) same in omega arith)
 
 -- what is read as an insert is the statement that the text begins with, if it is one at all
-pub insert_is_it : (text : List ℕ) (r : Option (Statement × Bor (List ℕ))) (s : Statement) (rest : List ℕ) → IfSome r (λ x. BeginsWithInsert text x.0 x.1.now) → (r ≡ None → ⊥)
+pub insert_is_it : (text : List ℕ) (r : Option (KvStatement × Bor (List ℕ))) (s : KvStatement) (rest : List ℕ) → IfSome r (λ x. BeginsWithInsert text x.0 x.1.now) → (r ≡ None → ⊥)
     → ((key value : ℤ) → FitsSigned w64 key → FitsSigned w64 value → text ≡ statement_text (Insert key value) ++ rest → IsSomeAnd r (λ x. (x.0 ≡ Insert key value) × (x.1.now ≡ rest)))
     → Fits s → text ≡ statement_text s ++ rest → IsSomeAnd r (λ x. (x.0 ≡ s) × (x.1.now ≡ rest))
 insert_is_it text r (Insert key value) rest found some only fits is = only key value fits.0 fits.1 is

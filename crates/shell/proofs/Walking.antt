@@ -9,9 +9,9 @@ use Rattle.std.proofs.lemmas.Slice.Eq.{bytes_eq-Decides}
 use Rattle.std.specs.Str.{bytes_eq}
 use Rattle.lane_format.specs.Lane.{batch_text, header_text}
 use Rattle.shell.specs.Kv.{FitsPair, Pairs, pair_body, value_of}
-use Rattle.shell.specs.Log.{Breaks, LaneRead, MayBeLogged, gate_place, lane_reads, last_end, log_text}
+use Rattle.shell.specs.Log.{Breaks, LogRead, MayBeLogged, gate_place, log_reads, last_end, log_text}
 use Rattle.shell.specs.Log.{Damaged, Holding, NotOpen, BreaksOff, OtherHead, Short, CutShort, NoGate, OtherLength, SameKey, TooLate}
-use Rattle.shell.proofs.Batches.{length-pair_body, log_text-append, number_bytes}
+use Rattle.shell.proofs.Batches.{length-pair_body, log_lane, log_text-append, number_bytes}
 use Rattle.shell.proofs.Pairs.{logged-push, none_there}
 
 -- each is a byte
@@ -40,7 +40,7 @@ some_or_none false = inr refl
 
 -- what stands behind the log of some pairs, and what the file then reads as
 abbrev Reads : Pairs → List ℕ → Type 0
-Reads pairs behind = (read : LaneRead) × lane_reads (log_text pairs ++ behind) read
+Reads pairs behind = (read : LogRead) × log_reads (log_text pairs ++ behind) read
 
 -- the pair in the body of a batch
 abbrev key_in : List ℕ → ℤ
@@ -93,7 +93,7 @@ module _ (pairs : Pairs) (rest : List ℕ) (logged : MayBeLogged pairs) (are : A
         | inl there ↦ breaks (SameKey (key_in body, value_in body) (drop 20 rest) fits batch there)
         | inr absent ↦
             let after = next (pairs ++ (key_in body, value_in body) ∷ []) (logged-push pairs (key_in body) (value_in body) (none_there (value_of pairs (key_in body)) absent) fits room logged) in
-            (after.0, subst (λ (l : List ℕ). lane_reads l after.0) (text_of_more pairs (key_in body, value_in body) (1 ∷ rest) (drop 20 rest) batch) after.1)
+            (after.0, subst (λ (l : List ℕ). log_reads l after.0) (text_of_more pairs (key_in body, value_in body) (1 ∷ rest) (drop 20 rest) batch) after.1)
       ]
 
   step : Reads pairs (1 ∷ rest)
@@ -112,13 +112,13 @@ walk : (fuel : ℕ) (pairs : Pairs) (behind : List ℕ) → MayBeLogged pairs �
 walk fuel pairs [] logged are short = (Damaged, BreaksOff pairs [] logged refl (NoGate refl))
 walk zero pairs (gate ∷ rest) logged are short = absurd (omega (arith, short))
 walk (suc fuel) pairs (gate ∷ rest) logged are short = elim (cases_eq gate 1) [
-  | inr isnt ↦ (Holding pairs, record { logged = logged; lane = record { gate = gate; rest = rest; closed = isnt; text = refl } })
+  | inr isnt ↦ (Holding pairs, record { logged = logged; lane = log_lane pairs gate rest (log_text pairs ++ gate ∷ rest) isnt refl })
   | inl is ↦
       subst (λ (g : ℕ). Reads pairs (g ∷ rest)) (sym is)
       (step pairs rest logged (bytes-drop 1 (gate ∷ rest) are) (λ more more_logged. walk fuel more (drop 20 rest) more_logged (bytes-drop 21 (gate ∷ rest) are) (omega (arith, short, length-drop 20 rest))))
 ]
 
-pub has_reading : (bytes : List ℕ) → AreBytes bytes → (read : LaneRead) × lane_reads bytes read
+pub has_reading : (bytes : List ℕ) → AreBytes bytes → (read : LogRead) × log_reads bytes read
 has_reading bytes are = elim (cases_eq (slice_index bytes 0) 1) [
   | inr shut ↦ (NotOpen, shut)
   | inl gate ↦ elim (cases_lt (length bytes) 12) [
@@ -128,7 +128,7 @@ has_reading bytes are = elim (cases_eq (slice_index bytes 0) 1) [
       | inl header ↦
           let text : log_text [] ++ drop 11 bytes ≡ bytes = ap (λ (l : List ℕ). l ++ drop 11 bytes) (append-nil (header_text 2 0) ∙ sym header) ∙ take-append-drop 11 bytes in
           let after = walk (length bytes) [] (drop 11 bytes) (record { fit = tt; apart = tt; near = omega arith }) (bytes-drop 11 bytes are) (omega (arith, length-drop 11 bytes)) in
-          (after.0, subst (λ (l : List ℕ). lane_reads l after.0) text after.1)
+          (after.0, subst (λ (l : List ℕ). log_reads l after.0) text after.1)
     ]
   ]
 ]

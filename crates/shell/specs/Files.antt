@@ -1,4 +1,4 @@
--- The files of a store that has one lane.
+-- The files of a store that has one lane, and what a call works on outside.
 use Rattle.std.specs.Prelude.{◌≡◌, List, [], ◌∷◌, map}
 use Rattle.disk_core.specs.declared.store.LaneDisks.{LaneDisks}
 use Rattle.disk_core.specs.declared.store.Store.{Store}
@@ -17,3 +17,16 @@ pub record KeepsOthers {D : Type 0} (old new : Store D) : Type 0 where
   pub area_a : new.area_a ≡ old.area_a
   pub area_b : new.area_b ≡ old.area_b
   pub odd : map (λ lane. lane.odd) new.lanes.items ≡ map (λ lane. lane.odd) old.lanes.items
+
+-- what a run works on: the source of its script, and the log file
+pub record Outside (S D : Type 0) : Type 0 where
+  pub source : S
+  pub disk : D
+
+-- a source and a log file
+abbrev pub outside_of : {S D : Type 0} → S → D → Outside S D
+outside_of source disk = record { source = source; disk = disk }
+
+-- a source and the log file of a store
+abbrev pub outside_in : {S D : Type 0} → S → Store D → Outside S D
+outside_in source store = outside_of source (log_file store)

@@ -1,26 +1,44 @@
 -- What is read of a source: all of it, or one byte more than a script may have.
-use Rattle.std.specs.Prelude.{◌≡◌, ℕ, ◌+◌, List, [], length, take, Option}
+use Rattle.std.specs.Prelude.{◌≡◌, ℕ, ◌+◌, ◌≤◌, List, [], length, take}
 use Rattle.std.specs.Option.{option_map, ForSome}
-use Rattle.io_edge.specs.Content.{Content, after_giving}
+use Rattle.io_edge.specs.Content.{after_giving}
+use Rattle.io_edge.specs.Runs.{ReadsOn, ReadsToFault}
+use Rattle.io_edge.specs.declared.source.Source.{Ghosts}
 use Rattle.shell.specs.Script.{max_script}
+use Rattle.shell.specs.declared.input.InputFault.{InputFault}
+use Rattle.shell.specs.declared.input.InputFault.TheVariants.{Source, OutOfMemory}
 
 -- so much is read at the most
 abbrev pub read_limit : ℕ
 read_limit = max_script + 1
 
--- the source was read to its end, or so much of it was
-abbrev pub WasRead : Option Content → Option Content → Type 0
-WasRead before after = after ≡ option_map (after_giving read_limit) before
+module _ {S : Type 0} (s : Ghosts S) where
+  -- The source was read to its end, or to one byte more than a script may have, and no pull failed.
+  pub record WasRead (old new : S) : Type 0 where
+    pub given : s.content new ≡ option_map (after_giving read_limit) (s.content old)
+    pub still : s.faults new ≡ s.faults old
 
--- the input is what was read
-abbrev pub IsInput : Option Content → List ℕ → Type 0
-IsInput before input = ForSome before (λ content. input ≡ take read_limit content.left)
+  -- At most so many bytes were read, and no pull failed.
+  pub record ReadsWithin (most : ℕ) (old new : S) : Type 0 where
+    pub bytes : List ℕ
+    pub few : length bytes ≤ most
+    pub read : ReadsOn s old new bytes
 
--- what was given since the start is the input so far
-pub record SoFar (start now : Option Content) (input : List ℕ) : Type 0 where
-  pub given : now ≡ option_map (after_giving (length input)) start
-  pub input_is : ForSome start (λ content. input ≡ take (length input) content.left)
+  -- At most so many bytes were read, and then a pull failed, which was the last.
+  pub record FailsWithin (most : ℕ) (old new : S) : Type 0 where
+    pub count : ℕ
+    pub few : count ≤ most
+    pub read : ReadsToFault s old new count
 
--- nothing is left
-abbrev pub HasEnded : Option Content → Type 0
-HasEnded now = ForSome now (λ content. content.left ≡ [])
+  -- reading stopped early, with at most so many bytes: a pull failed, or memory ran out
+  abbrev pub StopsWithin : ℕ → InputFault → S → S → Type 0
+  StopsWithin most Source old new = FailsWithin most old new
+  StopsWithin most OutOfMemory old new = ReadsWithin most old new
+
+  -- the input is what is read of the source
+  abbrev pub IsInput : S → List ℕ → Type 0
+  IsInput old input = ForSome (s.content old) (λ content. input ≡ take read_limit content.left)
+
+  -- nothing is left
+  abbrev pub HasEnded : S → Type 0
+  HasEnded now = ForSome (s.content now) (λ content. content.left ≡ [])

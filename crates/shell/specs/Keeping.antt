@@ -2,7 +2,8 @@
 use Rattle.std.specs.Prelude.{◌≡◌, ℕ, ℤ, List, length, map, Option}
 use Rattle.std.specs.Ordering.{int_cmp}
 use Rattle.std.specs.BTreeMap.{BTreeMap, get, btree_map_len}
-use Rattle.lane_format.specs.Crash.{LeavesNow}
+use Rattle.disk_core.specs.declared.disk.Disk.{Ghosts}
+use Rattle.disk_core.specs.Moments.{LeavesNow}
 use Rattle.lane_format.specs.Writer.{Holds, disk_of, lane_of, stage_of}
 use Rattle.lane_format.specs.declared.writer.Stage.TheVariants.{Open}
 use Rattle.shell.specs.Kv.{Pairs, pair_body, value_of}
@@ -14,15 +15,16 @@ pub record IsMapOf (table : BTreeMap ℤ ℤ) (pairs : Pairs) : Type 0 where
   pub same : (key : ℤ) → get int_cmp table key ≡ value_of pairs key
   pub count : btree_map_len table ≡ length pairs
 
--- The session has these pairs: its map answers as they do, and its log file is the open lane of generation 2 with a batch for each.
-pub record Keeps {D : Type 0} (content : D → Option (List ℕ)) (session : Session D) (pairs : Pairs) : Type 0 where
-  pub table : IsMapOf session.pairs pairs
-  pub logged : MayBeLogged pairs
-  pub lane : lane_of session.writer ≡ 0
-  pub stage : stage_of session.writer ≡ Open 2 (gate_place (length pairs))
-  pub file : Holds content session.writer 2 (map pair_body pairs)
+module _ {D : Type 0} (d : Ghosts D) where
+  -- The session has these pairs: its map answers as they do, and its log file is the open lane of generation 2 with a batch for each.
+  pub record Keeps (session : Session D) (pairs : Pairs) : Type 0 where
+    pub table : IsMapOf session.pairs pairs
+    pub logged : MayBeLogged pairs
+    pub lane : lane_of session.writer ≡ 0
+    pub stage : stage_of session.writer ≡ Open 2 (gate_place (length pairs))
+    pub file : Holds d session.writer 2 (map pair_body pairs)
 
--- It has them also if the machine stops now: every crash leaves the log of these pairs.
-pub record Secures {D : Type 0} (content : D → Option (List ℕ)) (may_leave : D → List ℕ → Type 0) (session : Session D) (pairs : Pairs) : Type 0 where
-  pub keeps : Keeps content session pairs
-  pub crash : LeavesNow content may_leave (disk_of session.writer) (IsLogOf pairs)
+  -- It has them also if the machine stops now: every crash leaves the log of these pairs.
+  pub record Secures (session : Session D) (pairs : Pairs) : Type 0 where
+    pub keeps : Keeps session pairs
+    pub crash : LeavesNow d (disk_of session.writer) (IsLogOf pairs)

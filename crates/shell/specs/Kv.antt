@@ -3,8 +3,8 @@ use Rattle.std.specs.Prelude.{ℕ, ◌+◌, ◌*◌, nat_lt, ℤ, FitsSigned, Bo
 use Rattle.std.specs.Ordering.{int_eq}
 use Rattle.std.specs.Map.{lookup}
 use Rattle.std.specs.Int.{w64, to_le_bytes, cast_unsigned}
-use Rattle.shell.specs.declared.statement.Statement.{Statement}
-use Rattle.shell.specs.declared.statement.Statement.TheVariants.{Insert, Select}
+use Rattle.shell.specs.declared.statement.KvStatement.{KvStatement}
+use Rattle.shell.specs.declared.statement.KvStatement.TheVariants.{Insert, Select}
 use Rattle.shell.specs.declared.reply.Reply.{Reply}
 use Rattle.shell.specs.declared.reply.Reply.TheVariants.{Inserted, Duplicate, LogFull, Found, Missing}
 
@@ -33,28 +33,28 @@ abbrev pub is_full : Pairs → Bool
 is_full pairs = nat_lt log_limit (used_bytes pairs)
 
 -- what a look-up replies
-abbrev pub found : ℤ → Option ℤ → Reply
-found key None = Missing
-found key (Some value) = Found key value
+abbrev pub look_up : ℤ → Option ℤ → Reply
+look_up key None = Missing
+look_up key (Some value) = Found key value
 
 -- what a statement replies
-abbrev pub reply_to : Pairs → Statement → Reply
+abbrev pub reply_to : Pairs → KvStatement → Reply
 reply_to pairs (Insert key value) =
     if is_some (value_of pairs key) then Duplicate key else (if is_full pairs then LogFull (used_bytes pairs) else Inserted)
-reply_to pairs (Select key) = found key (value_of pairs key)
+reply_to pairs (Select key) = look_up key (value_of pairs key)
 
 -- the pairs that a statement leaves: an insert that is accepted adds its pair
-abbrev pub pairs_after : Pairs → Statement → Pairs
+abbrev pub pairs_after : Pairs → KvStatement → Pairs
 pairs_after pairs (Insert key value) = if is_some (value_of pairs key) || is_full pairs then pairs else pairs ++ (key, value) ∷ []
 pairs_after pairs (Select key) = pairs
 
 -- what statements reply one after the other
-abbrev pub replies_to : Pairs → List Statement → List Reply
+abbrev pub replies_to : Pairs → List KvStatement → List Reply
 replies_to pairs [] = []
 replies_to pairs (s ∷ ss) = reply_to pairs s ∷ replies_to (pairs_after pairs s) ss
 
 -- the pairs that statements leave one after the other
-abbrev pub pairs_after_all : Pairs → List Statement → Pairs
+abbrev pub pairs_after_all : Pairs → List KvStatement → Pairs
 pairs_after_all pairs [] = pairs
 pairs_after_all pairs (s ∷ ss) = pairs_after_all (pairs_after pairs s) ss
 

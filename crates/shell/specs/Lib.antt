@@ -6,9 +6,11 @@ pub mod Text
 pub mod ReadScript
 pub mod Keeping
 pub mod Outcome
+pub mod Running
 pub mod Log
 pub mod Shown
 pub mod Call
 pub mod Files
 pub mod Opening
 pub mod Survival
+pub mod Answering

@@ -48,17 +48,17 @@ pub data IsDamaged (bytes : List ℕ) : Type 0 where
   BreaksOff : (pairs : Pairs) (behind : List ℕ) → MayBeLogged pairs → bytes ≡ log_text pairs ++ behind → Breaks pairs behind → IsDamaged bytes
 
 -- What a log file reads as: not open, damaged, or the log of these pairs in this order.
-pub data LaneRead : Type 0 where
-  NotOpen : LaneRead
-  Damaged : LaneRead
-  Holding : (pairs : Pairs) → LaneRead
+pub data LogRead : Type 0 where
+  NotOpen : LogRead
+  Damaged : LogRead
+  Holding : (pairs : Pairs) → LogRead
 
 -- the file reads as that
-abbrev pub lane_reads : List ℕ → LaneRead → Type 0
-lane_reads bytes NotOpen = IsNotOpen bytes
-lane_reads bytes Damaged = IsDamaged bytes
-lane_reads bytes (Holding pairs) = IsLogOf pairs bytes
+abbrev pub log_reads : List ℕ → LogRead → Type 0
+log_reads bytes NotOpen = IsNotOpen bytes
+log_reads bytes Damaged = IsDamaged bytes
+log_reads bytes (Holding pairs) = IsLogOf pairs bytes
 
 -- the pairs that a session begins with over the file: those that it holds, and none where it isn't open
 abbrev pub BeginsWith : Pairs → List ℕ → Type 0
-BeginsWith pairs bytes = lane_reads bytes (Holding pairs) ⊎ (lane_reads bytes NotOpen × (pairs ≡ []))
+BeginsWith pairs bytes = log_reads bytes (Holding pairs) ⊎ (log_reads bytes NotOpen × (pairs ≡ []))

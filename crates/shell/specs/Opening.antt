@@ -1,23 +1,36 @@
 -- What an opening finds in a log file.
-use Rattle.std.specs.Prelude.{◌≡◌, ◌≢◌, ℕ, ◌<◌, ◌≤◌, ℤ, List, ◌∷◌, ◌++◌, length, map, Option}
+use Rattle.std.specs.Prelude.{◌≡◌, ◌≢◌, ℕ, ◌<◌, ◌≤◌, ℤ, List, ◌∷◌, ◌++◌, length, map, Option, Result, Ok, Err}
 use Rattle.std.specs.Option.{ForSome}
 use Rattle.std.specs.List.{flat_map}
 use Rattle.std.specs.BTreeMap.{BTreeMap}
+use Rattle.causes.specs.Causes.{one_more}
 use Rattle.lane_format.specs.Lane.{batch_text}
 use Rattle.shell.specs.Keeping.{IsMapOf}
 use Rattle.shell.specs.Kv.{Pairs, pair_body}
-use Rattle.shell.specs.Log.{Breaks, IsDamaged, IsLogOf, MayBeLogged, gate_place, lane_reads, log_text}
+use Rattle.shell.specs.Log.{Breaks, IsDamaged, IsLogOf, MayBeLogged, gate_place, log_reads, log_text}
 use Rattle.shell.specs.Log.{Damaged, Holding, NotOpen}
-use Rattle.shell.specs.declared.reading.Found.{Found}
-use Rattle.shell.specs.declared.reading.Found.TheVariants as found
+use Rattle.shell.specs.declared.reading.LogContent.{LogContent}
+use Rattle.shell.specs.declared.reading.LogContent.TheVariants as content
+use Rattle.shell.specs.declared.reading.ReadFault.{ReadFault}
+use Rattle.shell.specs.declared.reading.ReadFault.TheVariants.{Failed, OutOfMemory}
 use Rattle.shell.specs.declared.reading.Front.{Front}
 use Rattle.shell.specs.declared.reading.Front.TheVariants as front
 
 -- what was found is what the file reads as
-abbrev pub IsFound : Option (List ℕ) → Found → Type 0
-IsFound content found.NotOpen = ForSome content (λ bytes. lane_reads bytes NotOpen)
-IsFound content found.Damaged = ForSome content (λ bytes. lane_reads bytes Damaged)
-IsFound content (found.Holding table) = (pairs : Pairs) × IsMapOf table pairs × MayBeLogged pairs × ForSome content (λ bytes. lane_reads bytes (Holding pairs))
+abbrev pub IsFound : Option (List ℕ) → LogContent → Type 0
+IsFound bytes content.NotOpen = ForSome bytes (λ bytes. log_reads bytes NotOpen)
+IsFound bytes content.Damaged = ForSome bytes (λ bytes. log_reads bytes Damaged)
+IsFound bytes (content.Holding table) = (pairs : Pairs) × IsMapOf table pairs × MayBeLogged pairs × ForSome bytes (λ bytes. log_reads bytes (Holding pairs))
+
+-- the count of the disk's faults, by why a log file wasn't read: it rose by one, or memory ran out and it stands
+abbrev pub FaultCause : ReadFault → ℕ → ℕ → Type 0
+FaultCause Failed old new = new ≡ one_more old
+FaultCause OutOfMemory old new = new ≡ old
+
+-- the same of how reading ended: where it succeeds the count stands
+abbrev pub HasReadCause : {T : Type 0} → ℕ → ℕ → Result T ReadFault → Type 0
+HasReadCause old new (Ok _) = new ≡ old
+HasReadCause old new (Err fault) = FaultCause fault old new
 
 -- the log of these pairs stands at the front of the file
 abbrev pub StartsWith : Pairs → List ℕ → Type 0

@@ -1,14 +1,15 @@
--- What is printed: the replies under the header of their session, and a last line that tells a fault.
+-- What is printed: the replies under the header of their session, and a last line that reports a fault.
 use Rattle.std.specs.Prelude.{ℕ, true, false, List, [], ◌++◌, codes, Option, None, Some}
 use Rattle.std.specs.Fmt.{decimal, signed_decimal}
 use Rattle.std.specs.List.{flat_map}
 use Rattle.shell.specs.Log.{last_end}
+use Rattle.shell.specs.Outcome.{OutcomeView}
 use Rattle.disk_core.specs.declared.store.FileName.{FileName}
 use Rattle.disk_core.specs.declared.store.FileName.TheVariants.{AreaA, AreaB, Lane}
 use Rattle.shell.specs.declared.reply.Reply.{Reply}
 use Rattle.shell.specs.declared.reply.Reply.TheVariants.{Inserted, Duplicate, LogFull, Found, Missing, Stopped, StoppedMemory}
-use Rattle.shell.specs.declared.end.End.{End}
-use Rattle.shell.specs.declared.end.End.TheVariants.{Done, Usage, OutOfMemory, Disk, Source, Script, Damaged}
+use Rattle.shell.specs.declared.end.CallEnd.{CallEnd}
+use Rattle.shell.specs.declared.end.CallEnd.TheVariants.{Done, Usage, OutOfMemory, Disk, Source, Script, Damaged}
 
 -- the lines of a reply
 abbrev pub reply_text : Reply → List ℕ
@@ -32,8 +33,8 @@ file_text AreaB = codes "area.b"
 file_text (Lane lane false) = codes "lane" ++ decimal lane ++ codes ".even"
 file_text (Lane lane true) = codes "lane" ++ decimal lane ++ codes ".odd"
 
--- the line that tells a fault
-abbrev pub last_line : End → List ℕ
+-- the line that reports a fault
+abbrev pub last_line : CallEnd → List ℕ
 last_line Done = []
 last_line Usage = codes "fault USAGE\n"
 last_line OutOfMemory = codes "fault MEMORY\n"
@@ -42,8 +43,12 @@ last_line Source = codes "fault SOURCE\n"
 last_line Script = codes "fault SCRIPT\n"
 last_line Damaged = codes "fault DAMAGED\n"
 
+-- the text of an outcome
+abbrev pub text_of : OutcomeView → List ℕ
+text_of view = shown_text view.shown ++ last_line view.end
+
 -- the exit status
-abbrev pub status_of : End → ℕ
+abbrev pub status_of : CallEnd → ℕ
 status_of Done = 0
 status_of Usage = 2
 status_of OutOfMemory = 3

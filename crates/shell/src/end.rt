@@ -9,12 +9,12 @@ use io_edge::{Failed, Sink};
 
 /// How a call ends.
 #[derive(Clone, Copy, Debug, PartialEq, Eq)]
-pub enum End {
+pub enum CallEnd {
     /// All was read and done.
     Done,
     /// The words are no form of the command.
     Usage,
-    /// No memory was found.
+    /// Memory ran out.
     OutOfMemory,
     /// The disk of this file failed.
     Disk(FileName),
@@ -26,60 +26,60 @@ pub enum End {
     Damaged,
 }
 
-impl End {
+impl CallEnd {
     ghost use Rattle.std.specs.Prelude.{◌≡◌, ◌≢◌, ◌↔◌, IsErr};
     ghost use Rattle.shell.specs.Printed.{Prints};
     ghost use Rattle.shell.specs.Text.{last_line, status_of};
-    ghost use Rattle.shell.specs.declared.end.End.TheVariants.{Done};
+    ghost use Rattle.shell.specs.declared.end.CallEnd.TheVariants.{Done};
 
     /// The exit status.
     fn status(self) -> u8
         ensures { result ≡ status_of self }
     {
         match self {
-            End::Done => 0,
-            End::Usage => 2,
-            End::OutOfMemory => 3,
-            End::Disk(_) => 4,
-            End::Source => 5,
-            End::Script => 7,
-            End::Damaged => 8,
+            CallEnd::Done => 0,
+            CallEnd::Usage => 2,
+            CallEnd::OutOfMemory => 3,
+            CallEnd::Disk(_) => 4,
+            CallEnd::Source => 5,
+            CallEnd::Script => 7,
+            CallEnd::Damaged => 8,
         }
     }
 
-    /// The exit status once all is printed, or the sink has failed.
+    /// The exit status once all is printed or the sink has failed: 6 where all else was done.
     pub(crate) fn status_after(self, printed: Result<(), Failed>) -> u8
         ensures six { (result ≡ 6) ↔ ((self ≡ Done) × IsErr printed) }
         ensures other { result ≢ 6 → result ≡ status_of self }
     {
         match self {
-            End::Done if printed.is_err() => 6,
+            CallEnd::Done if printed.is_err() => 6,
             _ => self.status(),
         }
     }
 
-    /// Prints the last line, which tells a fault.
+    /// Prints the last line, which reports a fault.
     pub(crate) fn print<K: Sink>(self, printer: &mut Printer, sink: &mut K)
-        ensures { Prints printer.old (K.taken sink.old) (K.faults sink.old) (last_line self) printer.new (K.taken sink.new) (K.faults sink.new) }
+        ensures { Prints K.Sink (last_line self) printer.old sink.old printer.new sink.new }
     {
         match self {
-            End::Done => {}
-            End::Usage => printer.print(sink, "fault USAGE\n"),
-            End::OutOfMemory => printer.print(sink, "fault MEMORY\n"),
-            End::Disk(file) => {
+            CallEnd::Done => {}
+            CallEnd::Usage => printer.print(sink, "fault USAGE\n"),
+            CallEnd::OutOfMemory => printer.print(sink, "fault MEMORY\n"),
+            CallEnd::Disk(file) => {
                 printer.print(sink, "fault DISK ");
                 print_name(file, printer, sink);
                 printer.print(sink, "\n");
             }
-            End::Source => printer.print(sink, "fault SOURCE\n"),
-            End::Script => printer.print(sink, "fault SCRIPT\n"),
-            End::Damaged => printer.print(sink, "fault DAMAGED\n"),
+            CallEnd::Source => printer.print(sink, "fault SOURCE\n"),
+            CallEnd::Script => printer.print(sink, "fault SCRIPT\n"),
+            CallEnd::Damaged => printer.print(sink, "fault DAMAGED\n"),
         }
     }
 }
 
 fn print_name<K: Sink>(file: FileName, printer: &mut Printer, sink: &mut K)
-    ensures { Prints printer.old (K.taken sink.old) (K.faults sink.old) (file_text file) printer.new (K.taken sink.new) (K.faults sink.new) }
+    ensures { Prints K.Sink (file_text file) printer.old sink.old printer.new sink.new }
 {
     match file {
         FileName::AreaA => printer.print(sink, "area.a"),
@@ -93,7 +93,7 @@ fn print_name<K: Sink>(file: FileName, printer: &mut Printer, sink: &mut K)
 }
 
 pub(crate) fn print_replies<K: Sink>(replies: &[Reply], printer: &mut Printer, sink: &mut K)
-    ensures { Prints printer.old (K.taken sink.old) (K.faults sink.old) (flat_map reply_text replies.now) printer.new (K.taken sink.new) (K.faults sink.new) }
+    ensures { Prints K.Sink (flat_map reply_text replies.now) printer.old sink.old printer.new sink.new }
 {
     for reply in replies {
         reply.print(printer, sink);

@@ -1,7 +1,6 @@
-ghost use Rattle.std.specs.Prelude.{◌≡◌, ◌+◌, ◌<◌, ◌≤◌, length, Option, IfOk, OnOk, IsErrOf, MatchBool, vec_len};
-ghost use Rattle.causes.specs.Causes.{Rose};
-ghost use Rattle.shell.specs.Input.{HasEnded, IsInput, SoFar, WasRead};
-ghost use Rattle.io_edge.specs.Content.{Content};
+ghost use Rattle.std.specs.Prelude.{◌≡◌, ◌+◌, ◌<◌, ◌≤◌, length, IfOk, IfErr, OnOk, MatchBool, vec_len};
+ghost use Rattle.io_edge.specs.Runs.{ReadsOn};
+ghost use Rattle.shell.specs.Input.{HasEnded, IsInput, StopsWithin, WasRead, read_limit};
 
 use crate::script::MAX_SCRIPT;
 use io_edge::{Failed, Source};
@@ -27,12 +26,11 @@ impl From<AllocError> for InputFault {
     }
 }
 
-/// Reads a source to its end, or one byte further than a script may go.
+/// Reads a source to its end, or to one byte more than a script may have.
 pub(crate) fn read_all<S: Source>(alloc: Global, source: &mut S) -> Result<Vec<u8>, InputFault>
-    ensures read { OnOk result (WasRead (S.content source.old) (S.content source.new)) }
-    ensures input { IfOk result (λ input. IsInput (S.content source.old) input.items) }
-    ensures later { S.faults source.old ≤ S.faults source.new }
-    ensures cause { IsErrOf result InputFault.Source → Rose (S.faults source.old) (S.faults source.new) }
+    ensures read { OnOk result (WasRead S.Source source.old source.new) }
+    ensures input { IfOk result (λ input. IsInput S.Source source.old input.items) }
+    ensures stopped { IfErr result (λ fault. StopsWithin S.Source read_limit fault source.old source.new) }
 {
     let mut piece = [0; PIECE];
     let mut input = Vec::new(alloc);
@@ -45,19 +43,20 @@ pub(crate) fn read_all<S: Source>(alloc: Global, source: &mut S) -> Result<Vec<u
     Ok(input)
 }
 
-/// Adds what a source gives next to the input, and says whether there was something.
+/// Adds what a source gives next to the input, and returns whether there was something.
 fn pull_more<S: Source>(
     source: &mut S,
     piece: &mut [u8],
     input: &mut Vec<u8>,
 ) -> Result<bool, InputFault>
     requires { 0 < length piece.old }
-    ensures so_far { OnOk result ((start : Option Content) → SoFar start (S.content source.old) input.old.items → SoFar start (S.content source.new) input.new.items) }
+    ensures read { OnOk result ((start : S) → ReadsOn S.Source start source.old input.old.items
+        → ReadsOn S.Source start source.new input.new.items) }
     ensures more { IfOk result (λ more. MatchBool more
         ((vec_len input.old < vec_len input.new) × (vec_len input.new ≤ vec_len input.old + length piece.old))
-        ((input.new.items ≡ input.old.items) × HasEnded (S.content source.new))) }
-    ensures later { S.faults source.old ≤ S.faults source.new }
-    ensures cause { IsErrOf result InputFault.Source → Rose (S.faults source.old) (S.faults source.new) }
+        ((input.new.items ≡ input.old.items) × HasEnded S.Source source.new)) }
+    ensures stopped { IfErr result (λ fault. StopsWithin S.Source
+        (length piece.old) fault source.old source.new) }
 {
     let n = match source.pull(piece) {
         Ok(n) => n,

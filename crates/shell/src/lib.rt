@@ -1,4 +1,5 @@
-//! The call that the program makes: it reads a script, runs it over the files of a database and prints the replies.
+//! The call that the program makes: it reads a script, runs it over the files of a database and prints the
+//! replies.
 #![tactic(auto)]
 
 mod call;
@@ -17,7 +18,7 @@ mod statement;
 mod stop;
 
 pub use call::{Ended, is_run, ptime};
-pub use end::End;
+pub use end::CallEnd;
 pub use laws::{one_reading, reads_what_was_forced, some_reading};
 pub use reply::Reply;
-pub use statement::Statement;
+pub use statement::KvStatement;

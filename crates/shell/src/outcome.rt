@@ -1,5 +1,5 @@
 use crate::Reply;
-use crate::end::{End, print_replies};
+use crate::end::{CallEnd, print_replies};
 use crate::printer::Printer;
 use io_edge::Sink;
 
@@ -7,26 +7,26 @@ use io_edge::Sink;
 #[derive(Drop)]
 pub(crate) struct Outcome {
     pub(crate) shown: Option<Vec<Reply>>,
-    pub(crate) end: End,
+    pub(crate) end: CallEnd,
 }
 
 impl Outcome {
-    ghost use Rattle.std.specs.Prelude.{◌≡◌, None};
+    ghost use Rattle.std.specs.Prelude.{◌≡◌};
+    ghost use Rattle.shell.specs.Outcome.{shows_none, view_of};
     ghost use Rattle.shell.specs.Printed.{Prints};
-    ghost use Rattle.shell.specs.Shown.{Shows, shown_of};
+    ghost use Rattle.shell.specs.Shown.{Shows};
     ghost use Rattle.shell.specs.Text.{shown_text};
 
     /// The end of a call that shows no replies.
-    pub(crate) fn alone(end: End) -> Outcome
-        ensures end { result.end ≡ end }
-        ensures shown { shown_of result ≡ None }
+    pub(crate) fn alone(end: CallEnd) -> Outcome
+        ensures { view_of result ≡ shows_none end }
     {
         Outcome { shown: None, end }
     }
 
-    /// Prints what is shown and the last line, and gives the exit status.
+    /// Prints the replies and the last line, and returns the exit status.
     pub(crate) fn print<K: Sink>(&self, sink: &mut K) -> u8
-        ensures { Shows (K.taken sink.old) (K.faults sink.old) (shown_of self.now) self.now.end result (K.taken sink.new) (K.faults sink.new) }
+        ensures { Shows K.Sink (view_of self.now) sink.old sink.new result }
     {
         let mut printer = Printer::new();
         self.print_shown(&mut printer, sink);
@@ -36,7 +36,8 @@ impl Outcome {
     }
 
     fn print_shown<K: Sink>(&self, printer: &mut Printer, sink: &mut K)
-        ensures { Prints printer.old (K.taken sink.old) (K.faults sink.old) (shown_text (shown_of self.now)) printer.new (K.taken sink.new) (K.faults sink.new) }
+        ensures { Prints K.Sink (shown_text
+            (view_of self.now).shown) printer.old sink.old printer.new sink.new }
     {
         if let Some(replies) = &self.shown {
             printer.print(sink, "session 1\n");

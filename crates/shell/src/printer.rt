@@ -14,7 +14,7 @@ pub(crate) struct Printer {
 }
 
 impl Printer {
-    ghost use Rattle.std.specs.Prelude.{◌≡◌, ◌≤◌, ℕ, List, [], ◌++◌, false, length, Option};
+    ghost use Rattle.std.specs.Prelude.{◌≡◌, ◌≤◌, ℕ, List, [], ◌++◌, false, length};
     ghost use Rattle.shell.specs.Printed.{EndsPrinted, IsPrinted, Prints};
 
     pub(crate) fn new() -> Printer
@@ -30,7 +30,7 @@ impl Printer {
     /// Prints a text that is no longer than a page.
     pub(crate) fn print<K: Sink>(&mut self, sink: &mut K, text: &str)
         requires { length text.now ≤ PAGE }
-        ensures { Prints self.old (K.taken sink.old) (K.faults sink.old) text.now self.new (K.taken sink.new) (K.faults sink.new) }
+        ensures { Prints K.Sink text.now self.old sink.old self.new sink.new }
     {
         if self.page.remaining_capacity() < text.len() {
             self.flush(sink);
@@ -40,7 +40,7 @@ impl Printer {
 
     /// Prints a number in decimal.
     pub(crate) fn print_number<K: Sink, N: Integer>(&mut self, sink: &mut K, number: N)
-        ensures { Prints self.old (K.taken sink.old) (K.faults sink.old) (N.text number) self.new (K.taken sink.new) (K.faults sink.new) }
+        ensures { Prints K.Sink (N.text number) self.old sink.old self.new sink.new }
     {
         let mut buffer = Buffer::new();
         self.print(sink, buffer.format(number));
@@ -56,17 +56,17 @@ impl Printer {
     )
         requires front { length front.now ≤ PAGE }
         requires back { length back.now ≤ PAGE }
-        ensures { Prints self.old (K.taken sink.old) (K.faults sink.old) (front.now ++ N.text number ++ back.now) self.new (K.taken sink.new) (K.faults sink.new) }
+        ensures { Prints K.Sink (front.now ++ N.text number ++ back.now) self.old sink.old self.new sink.new }
     {
         self.print(sink, front);
         self.print_number(sink, number);
         self.print(sink, back);
     }
 
-    /// Brings what waits to the sink. `Failed` says that the sink has failed, now or before.
+    /// Brings what waits to the sink. `Failed` says that the sink has failed, in this call or before.
     pub(crate) fn finish<K: Sink>(mut self, sink: &mut K) -> Result<(), Failed>
-        ensures { (start : Option (List ℕ)) (before : ℕ) (text : List ℕ) → IsPrinted start before text self (K.taken sink.old) (K.faults sink.old)
-            → EndsPrinted start before text result (K.taken sink.new) (K.faults sink.new) }
+        ensures { (start : K) (text : List ℕ) → IsPrinted K.Sink start text self sink.old
+            → EndsPrinted K.Sink start text result sink.new }
     {
         self.flush(sink);
         let Printer { page: _, failed } = self;
@@ -74,7 +74,7 @@ impl Printer {
     }
 
     fn flush<K: Sink>(&mut self, sink: &mut K)
-        ensures printed { Prints self.old (K.taken sink.old) (K.faults sink.old) [] self.new (K.taken sink.new) (K.faults sink.new) }
+        ensures printed { Prints K.Sink [] self.old sink.old self.new sink.new }
         ensures empty { self.new.page.bytes ≡ [] }
     {
         if self.failed {

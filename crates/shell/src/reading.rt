@@ -1,33 +1,60 @@
 // Reads what a log file holds, a piece at a time.
-ghost use Rattle.std.specs.Prelude.{◌≡◌, ◌↔◌, ◌+◌, ◌<◌, ◌≤◌, length, take, drop, IsTrue, FitsSigned, IfOk, IfErr};
+ghost use Rattle.std.specs.Prelude.{◌≡◌, ◌↔◌, ◌+◌, ◌<◌, ◌≤◌, length, take, IsTrue, FitsSigned, IfOk, IfErr};
 ghost use Rattle.std.specs.Int.{w64, to_le_bytes, cast_unsigned};
 ghost use Rattle.std.specs.BTreeMap.{btree_map_len};
 ghost use Rattle.std.specs.Option.{ForSome};
-ghost use Rattle.causes.specs.Causes.{HasCause, Rose};
-ghost use Rattle.disk_core.specs.declared.store.FileName.{FileName};
+ghost use Rattle.causes.specs.Causes.{HasCause};
+ghost use Rattle.disk_core.specs.Moments.{OnlyReads};
 ghost use Rattle.lane_format.specs.Lane.{IsOpen, header_text};
-ghost use Rattle.lane_format.specs.Writer.{even_file};
 ghost use Rattle.shell.specs.Keeping.{IsMapOf};
 ghost use Rattle.shell.specs.Kv.{Pairs};
 ghost use Rattle.shell.specs.Log.{MayBeLogged};
-ghost use Rattle.shell.specs.Outcome.{CountStands};
-ghost use Rattle.shell.specs.Opening.{Adds, HasClosedGate, IsFound, Reached};
-ghost use Rattle.shell.specs.Survival.{LeavesAsWas};
+ghost use Rattle.shell.specs.Opening.{Adds, HasClosedGate, HasReadCause, IsFound, Reached};
 
 use crate::log::{BATCH, HEAD, LAST_END, OPEN, gate_place};
-use crate::stop::Stop;
 use disk_core::{Disk, Failed};
-use std::alloc::Global;
+use std::alloc::{AllocFailed, Global};
 use std::collections::BTreeMap;
 
 /// What a log file reads as.
-pub(crate) enum Found {
+pub(crate) enum LogContent {
     /// Its gate isn't open.
     NotOpen,
     /// It is open, but not in the form of a log.
     Damaged,
     /// It is the log of these pairs.
     Holding(BTreeMap<i64, i64>),
+}
+
+/// Why a log file wasn't read.
+#[derive(Clone, Copy, Debug, PartialEq, Eq)]
+pub(crate) enum ReadFault {
+    /// Its disk failed.
+    Failed,
+    /// Memory ran out.
+    OutOfMemory,
+}
+
+impl From<Failed> for ReadFault {
+    ghost use Rattle.std.specs.Prelude.{◌≡◌};
+    ghost use Rattle.shell.specs.declared.reading.ReadFault.TheVariants as fault;
+
+    ghost from_gives = { λ _ e. e ≡ fault.Failed };
+
+    fn from(_: Failed) -> ReadFault {
+        ReadFault::Failed
+    }
+}
+
+impl<T: Drop> From<AllocFailed<T>> for ReadFault {
+    ghost use Rattle.std.specs.Prelude.{◌≡◌};
+    ghost use Rattle.shell.specs.declared.reading.ReadFault.TheVariants.{OutOfMemory};
+
+    ghost from_gives = { λ _ e. e ≡ OutOfMemory };
+
+    fn from(_: AllocFailed<T>) -> ReadFault {
+        ReadFault::OutOfMemory
+    }
 }
 
 /// What comes behind the pairs that were read so far.
@@ -50,20 +77,17 @@ const HEADER: &[u8] = b"\x01\x02\0\0\0\0\0\0\0\0\0";
 const LENGTH: &[u8] = &[16, 0, 0, 0];
 
 /// Reads a log file whole. Memory is taken for a pair once its batch was found to be good.
-pub(crate) fn read_log<D: Disk>(alloc: Global, disk: &mut D) -> Result<Found, Stop>
+pub(crate) fn read_log<D: Disk>(alloc: Global, disk: &mut D) -> Result<LogContent, ReadFault>
     ensures found { IfOk result (IsFound (D.content disk.old)) }
-    ensures same { D.content disk.new ≡ D.content disk.old }
-    ensures crash { LeavesAsWas D.may_leave D.moment D.left_since disk.old disk.new }
-    ensures later { D.faults disk.old ≤ D.faults disk.new }
-    ensures still { CountStands (D.faults disk.old) (D.faults disk.new) result }
-    ensures cause { IfErr result (λ stop. (file : FileName) → stop ≡ Stop.Disk file → (file ≡ even_file 0) × Rose (D.faults disk.old) (D.faults disk.new)) }
+    ensures only_reads { OnlyReads D.Disk disk.old disk.new }
+    ensures cause { HasReadCause (D.faults disk.old) (D.faults disk.new) result }
 {
     let size = disk.size()?;
     if !has_open_gate(disk, size)? {
-        return Ok(Found::NotOpen);
+        return Ok(LogContent::NotOpen);
     }
     if size <= HEAD as u64 || !has_header(disk)? {
-        return Ok(Found::Damaged);
+        return Ok(LogContent::Damaged);
     }
     read_pairs(alloc, disk, size)
 }
@@ -71,9 +95,9 @@ pub(crate) fn read_log<D: Disk>(alloc: Global, disk: &mut D) -> Result<Found, St
 /// Whether the file's gate is open.
 fn has_open_gate<D: Disk>(disk: &mut D, size: u64) -> Result<bool, Failed>
     requires { ForSome (D.content disk.old) (λ bytes. size ≡ length bytes) }
-    ensures open { IfOk result (λ is_open. ForSome (D.content disk.old) (λ bytes. IsTrue is_open ↔ IsOpen bytes)) }
-    ensures same { D.content disk.new ≡ D.content disk.old }
-    ensures crash { LeavesAsWas D.may_leave D.moment D.left_since disk.old disk.new }
+    ensures open { IfOk result (λ is_open. ForSome (D.content disk.old)
+        (λ bytes. IsTrue is_open ↔ IsOpen bytes)) }
+    ensures only_reads { OnlyReads D.Disk disk.old disk.new }
     ensures cause { HasCause (D.faults disk.old) (D.faults disk.new) result }
 {
     if size == 0 {
@@ -87,9 +111,9 @@ fn has_open_gate<D: Disk>(disk: &mut D, size: u64) -> Result<bool, Failed>
 /// Whether the file begins as the log of this lane and generation does.
 fn has_header<D: Disk>(disk: &mut D) -> Result<bool, Failed>
     requires { ForSome (D.content disk.old) (λ bytes. 12 ≤ length bytes) }
-    ensures header { IfOk result (λ has. ForSome (D.content disk.old) (λ bytes. IsTrue has ↔ (take 11 bytes ≡ header_text 2 0))) }
-    ensures same { D.content disk.new ≡ D.content disk.old }
-    ensures crash { LeavesAsWas D.may_leave D.moment D.left_since disk.old disk.new }
+    ensures header { IfOk result (λ has. ForSome (D.content disk.old) (λ bytes. IsTrue has ↔
+        (take 11 bytes ≡ header_text 2 0))) }
+    ensures only_reads { OnlyReads D.Disk disk.old disk.new }
     ensures cause { HasCause (D.faults disk.old) (D.faults disk.new) result }
 {
     let mut header = [0; HEAD];
@@ -98,24 +122,21 @@ fn has_header<D: Disk>(disk: &mut D) -> Result<bool, Failed>
 }
 
 /// Reads the pairs behind the header.
-fn read_pairs<D: Disk>(alloc: Global, disk: &mut D, size: u64) -> Result<Found, Stop>
+fn read_pairs<D: Disk>(alloc: Global, disk: &mut D, size: u64) -> Result<LogContent, ReadFault>
     requires size { ForSome (D.content disk.old) (λ bytes. size ≡ length bytes) }
     requires some { 12 ≤ size }
     requires header { ForSome (D.content disk.old) (λ bytes. take 11 bytes ≡ header_text 2 0) }
     ensures found { IfOk result (IsFound (D.content disk.old)) }
-    ensures same { D.content disk.new ≡ D.content disk.old }
-    ensures crash { LeavesAsWas D.may_leave D.moment D.left_since disk.old disk.new }
-    ensures later { D.faults disk.old ≤ D.faults disk.new }
-    ensures still { CountStands (D.faults disk.old) (D.faults disk.new) result }
-    ensures cause { IfErr result (λ stop. (file : FileName) → stop ≡ Stop.Disk file → (file ≡ even_file 0) × Rose (D.faults disk.old) (D.faults disk.new)) }
+    ensures only_reads { OnlyReads D.Disk disk.old disk.new }
+    ensures cause { HasReadCause (D.faults disk.old) (D.faults disk.new) result }
 {
     let mut pairs = BTreeMap::new(alloc);
     let mut piece = [0; PIECE];
     loop {
         match read_piece(disk, size, &mut piece, &mut pairs)? {
             Front::More => {}
-            Front::Ends => return Ok(Found::Holding(pairs)),
-            Front::Breaks => return Ok(Found::Damaged),
+            Front::Ends => return Ok(LogContent::Holding(pairs)),
+            Front::Breaks => return Ok(LogContent::Damaged),
         }
     }
 }
@@ -126,17 +147,15 @@ fn read_piece<D: Disk>(
     size: u64,
     room: &mut [u8],
     pairs: &mut BTreeMap<i64, i64>,
-) -> Result<Front, Stop>
+) -> Result<Front, ReadFault>
     requires room { length room.old ≡ PIECE }
     requires size { ForSome (D.content disk.old) (λ bytes. size ≡ length bytes) }
     requires so_far { Reached (D.content disk.old) size Front.More pairs.old }
     ensures front { IfOk result (λ front. Reached (D.content disk.old) size front pairs.new) }
-    ensures more { IfOk result (λ front. front ≡ Front.More → btree_map_len pairs.old < btree_map_len pairs.new) }
-    ensures same { D.content disk.new ≡ D.content disk.old }
-    ensures crash { LeavesAsWas D.may_leave D.moment D.left_since disk.old disk.new }
-    ensures later { D.faults disk.old ≤ D.faults disk.new }
-    ensures still { CountStands (D.faults disk.old) (D.faults disk.new) result }
-    ensures cause { IfErr result (λ stop. (file : FileName) → stop ≡ Stop.Disk file → (file ≡ even_file 0) × Rose (D.faults disk.old) (D.faults disk.new)) }
+    ensures more { IfOk result (λ front. front ≡ Front.More
+        → btree_map_len pairs.old < btree_map_len pairs.new) }
+    ensures only_reads { OnlyReads D.Disk disk.old disk.new }
+    ensures cause { HasReadCause (D.faults disk.old) (D.faults disk.new) result }
 {
     let at = gate_place(pairs.len());
     let len = (size - at).min(PIECE as u64) as usize;
@@ -153,10 +172,11 @@ fn read_piece<D: Disk>(
 }
 
 /// Puts the pairs of whole batches in, up to the first that doesn't go on the log.
-fn add_batches(pairs: &mut BTreeMap<i64, i64>, piece: &[u8]) -> Result<Front, Stop>
+fn add_batches(pairs: &mut BTreeMap<i64, i64>, piece: &[u8]) -> Result<Front, ReadFault>
     requires { (list : Pairs) × IsMapOf pairs.old list × MayBeLogged list }
-    ensures adds { IfOk result (λ front. (list : Pairs) → IsMapOf pairs.old list → MayBeLogged list → Adds front list piece.now pairs.new) }
-    ensures memory { IfErr result (λ stop. stop ≡ Stop.OutOfMemory) }
+    ensures adds { IfOk result (λ front. (list : Pairs) → IsMapOf pairs.old list → MayBeLogged list
+        → Adds front list piece.now pairs.new) }
+    ensures memory { IfErr result (λ fault. fault ≡ ReadFault.OutOfMemory) }
 {
     let mut rest = piece;
     while rest.len() >= BATCH {
@@ -171,11 +191,12 @@ fn add_batches(pairs: &mut BTreeMap<i64, i64>, piece: &[u8]) -> Result<Front, St
 }
 
 /// Puts the pair of a batch in, if it goes on the log.
-fn add_batch(pairs: &mut BTreeMap<i64, i64>, batch: &[u8]) -> Result<Front, Stop>
+fn add_batch(pairs: &mut BTreeMap<i64, i64>, batch: &[u8]) -> Result<Front, ReadFault>
     requires so_far { (list : Pairs) × IsMapOf pairs.old list × MayBeLogged list }
     requires whole { length batch.now ≡ BATCH }
-    ensures adds { IfOk result (λ front. (list : Pairs) → IsMapOf pairs.old list → MayBeLogged list → Adds front list batch.now pairs.new) }
-    ensures memory { IfErr result (λ stop. stop ≡ Stop.OutOfMemory) }
+    ensures adds { IfOk result (λ front. (list : Pairs) → IsMapOf pairs.old list → MayBeLogged list
+        → Adds front list batch.now pairs.new) }
+    ensures memory { IfErr result (λ fault. fault ≡ ReadFault.OutOfMemory) }
 {
     if ends(batch) {
         return Ok(Front::Ends);

@@ -17,7 +17,7 @@ pub enum Reply {
     Missing,
     /// The run had stopped at a disk fault.
     Stopped,
-    /// The run had stopped at want of memory.
+    /// The run had stopped since memory ran out.
     StoppedMemory,
 }
 
@@ -27,7 +27,7 @@ impl Reply {
 
     /// Prints its lines.
     pub(crate) fn print<K: Sink>(self, printer: &mut Printer, sink: &mut K)
-        ensures { Prints printer.old (K.taken sink.old) (K.faults sink.old) (reply_text self) printer.new (K.taken sink.new) (K.faults sink.new) }
+        ensures { Prints K.Sink (reply_text self) printer.old sink.old printer.new sink.new }
     {
         match self {
             Reply::Inserted => printer.print(sink, "ok 1\n"),

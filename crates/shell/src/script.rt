@@ -2,9 +2,9 @@ ghost use Rattle.std.specs.Prelude.{◌≡◌, List, Option, IfOk, MatchResult};
 ghost use Rattle.std.specs.List.{AllByRecursion, flat_map};
 ghost use Rattle.shell.specs.Script.{Fits, IsScript, statement_text};
 ghost use Rattle.shell.specs.ReadScript.{script_of};
-ghost use Rattle.shell.specs.declared.statement.Statement.{Statement as Line};
+ghost use Rattle.shell.specs.declared.statement.KvStatement.{KvStatement as Line};
 
-use crate::statement::{Statement, after, read_statement};
+use crate::statement::{KvStatement, after, read_statement};
 use std::alloc::{AllocFailed, Global};
 
 /// How many bytes a script has at the most.
@@ -33,7 +33,7 @@ impl<T: Drop> From<AllocFailed<T>> for ScriptFault {
 /// The statements of a script's session, where it has one.
 #[derive(Drop)]
 pub(crate) struct Script {
-    pub(crate) session: Option<Vec<Statement>>,
+    pub(crate) session: Option<Vec<KvStatement>>,
 }
 
 /// Reads the input as a script.
@@ -58,9 +58,11 @@ pub(crate) fn parse(alloc: Global, input: &[u8]) -> Result<Script, ScriptFault>
 }
 
 /// Reads a text as the lines of statements.
-fn read_statements(alloc: Global, text: &[u8]) -> Result<Vec<Statement>, ScriptFault>
-    ensures found { IfOk result (λ found. AllByRecursion Fits found.items × (text.now ≡ flat_map statement_text found.items)) }
-    ensures only { (statements : List Line) → AllByRecursion Fits statements → text.now ≡ flat_map statement_text statements
+fn read_statements(alloc: Global, text: &[u8]) -> Result<Vec<KvStatement>, ScriptFault>
+    ensures found { IfOk result (λ found. AllByRecursion Fits found.items
+        × (text.now ≡ flat_map statement_text found.items)) }
+    ensures only { (statements : List Line) → AllByRecursion Fits statements
+        → text.now ≡ flat_map statement_text statements
         → MatchResult result (λ found. found.items ≡ statements) (λ e. e ≡ ScriptFault.OutOfMemory) }
 {
     let mut statements = Vec::new(alloc);

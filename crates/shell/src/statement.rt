@@ -2,13 +2,14 @@ ghost use Rattle.std.specs.Prelude.{◌≡◌, ◌++◌, ℤ, List, ℕ, Some, F
 ghost use Rattle.std.specs.Int.{w64};
 ghost use Rattle.std.specs.Fmt.{signed_decimal};
 ghost use Rattle.std.specs.List.{prefix_len};
-ghost use Rattle.shell.specs.Script.{BeginsWithInsert, BeginsWithSelect, EndsNumber, Fits, is_numeral, statement_text};
+ghost use Rattle.shell.specs.Script.{BeginsWithInsert, BeginsWithSelect, EndsNumber, Fits};
+ghost use Rattle.shell.specs.Script.{is_numeral, statement_text};
 
 use itoa::Buffer;
 
 /// A statement over the table kv.
 #[derive(Clone, Copy, Debug, PartialEq, Eq)]
-pub enum Statement {
+pub enum KvStatement {
     /// Puts a pair of a key and a value in, if the key isn't there.
     Insert { key: i64, value: i64 },
     /// Looks the value of a key up.
@@ -26,9 +27,9 @@ const SELECT: &[u8] = b"SELECT * FROM kv WHERE id = ";
 const END_OF_SELECT: &[u8] = b";\n";
 
 /// The statement whose line the text begins with, and what follows that line.
-pub(crate) fn read_statement(text: &[u8]) -> Option<(Statement, &[u8])>
+pub(crate) fn read_statement(text: &[u8]) -> Option<(KvStatement, &[u8])>
     ensures found { IfSome result (λ x. Fits x.0 × (text.now ≡ statement_text x.0 ++ x.1.now)) }
-    ensures only { (s : Statement) (rest : List ℕ) → Fits s → text.now ≡ statement_text s ++ rest
+    ensures only { (s : KvStatement) (rest : List ℕ) → Fits s → text.now ≡ statement_text s ++ rest
         → IsSomeAnd result (λ x. (x.0 ≡ s) × (x.1.now ≡ rest)) }
 {
     match read_insert(text) {
@@ -37,28 +38,30 @@ pub(crate) fn read_statement(text: &[u8]) -> Option<(Statement, &[u8])>
     }
 }
 
-fn read_insert(text: &[u8]) -> Option<(Statement, &[u8])>
+fn read_insert(text: &[u8]) -> Option<(KvStatement, &[u8])>
     ensures found { IfSome result (λ x. BeginsWithInsert text.now x.0 x.1.now) }
     ensures only { (key value : ℤ) (rest : List ℕ) → FitsSigned w64 key → FitsSigned w64 value
-        → text.now ≡ statement_text (Statement.Insert key value) ++ rest → IsSomeAnd result (λ x. (x.0 ≡ Statement.Insert key value) × (x.1.now ≡ rest)) }
+        → text.now ≡ statement_text (KvStatement.Insert key value) ++ rest
+        → IsSomeAnd result (λ x. (x.0 ≡ KvStatement.Insert key value) × (x.1.now ≡ rest)) }
 {
     let rest = after(text, INSERT)?;
     let (key, rest) = read_number(rest)?;
     let rest = after(rest, COMMA)?;
     let (value, rest) = read_number(rest)?;
     let rest = after(rest, END_OF_INSERT)?;
-    Some((Statement::Insert { key, value }, rest))
+    Some((KvStatement::Insert { key, value }, rest))
 }
 
-fn read_select(text: &[u8]) -> Option<(Statement, &[u8])>
+fn read_select(text: &[u8]) -> Option<(KvStatement, &[u8])>
     ensures found { IfSome result (λ x. BeginsWithSelect text.now x.0 x.1.now) }
     ensures only { (key : ℤ) (rest : List ℕ) → FitsSigned w64 key
-        → text.now ≡ statement_text (Statement.Select key) ++ rest → IsSomeAnd result (λ x. (x.0 ≡ Statement.Select key) × (x.1.now ≡ rest)) }
+        → text.now ≡ statement_text (KvStatement.Select key) ++ rest
+        → IsSomeAnd result (λ x. (x.0 ≡ KvStatement.Select key) × (x.1.now ≡ rest)) }
 {
     let rest = after(text, SELECT)?;
     let (key, rest) = read_number(rest)?;
     let rest = after(rest, END_OF_SELECT)?;
-    Some((Statement::Select { key }, rest))
+    Some((KvStatement::Select { key }, rest))
 }
 
 /// What follows this word at the front of the text.
@@ -72,7 +75,8 @@ pub(crate) fn after<'a>(text: &'a [u8], word: &[u8]) -> Option<&'a [u8]>
 /// The number that the text begins with, and what follows it.
 fn read_number(text: &[u8]) -> Option<(i64, &[u8])>
     ensures found { IfSome result (λ x. FitsSigned w64 x.0 × (text.now ≡ signed_decimal x.0 ++ x.1.now)) }
-    ensures only { (n : ℤ) (rest : List ℕ) → FitsSigned w64 n → EndsNumber rest → text.now ≡ signed_decimal n ++ rest
+    ensures only { (n : ℤ) (rest : List ℕ) → FitsSigned w64 n → EndsNumber rest
+        → text.now ≡ signed_decimal n ++ rest
         → IsSomeAnd result (λ x. (x.0 ≡ n) × (x.1.now ≡ rest)) }
 {
     let end = numeral_len(text);

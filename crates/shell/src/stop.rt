@@ -1,11 +1,16 @@
-use crate::log::LOG_FILE;
-use disk_core::{Failed, FileName};
+ghost use Rattle.std.specs.Prelude.{◌≡◌};
+ghost use Rattle.shell.specs.Running.{file_named};
+
+use disk_core::FileName;
+use lane_format::LaneFault;
 use std::alloc::AllocFailed;
 
-/// Why a session stops, or isn't begun.
+/// Why a session stops.
 #[derive(Clone, Copy, Debug, PartialEq, Eq)]
 pub(crate) enum Stop {
+    /// Memory ran out.
     OutOfMemory,
+    /// The disk of this file failed.
     Disk(FileName),
 }
 
@@ -20,14 +25,12 @@ impl<T: Drop> From<AllocFailed<T>> for Stop {
     }
 }
 
-impl From<Failed> for Stop {
-    ghost use Rattle.std.specs.Prelude.{◌≡◌};
-    ghost use Rattle.lane_format.specs.Writer.{even_file};
-    ghost use Rattle.shell.specs.declared.stop.Stop.TheVariants.{Disk};
-
-    ghost from_gives = { λ _ stop. stop ≡ Disk (even_file 0) };
-
-    fn from(_: Failed) -> Stop {
-        Stop::Disk(LOG_FILE)
+/// The file that a fault names.
+pub(crate) fn file_of(fault: LaneFault) -> FileName
+    ensures { result ≡ file_named fault }
+{
+    match fault {
+        LaneFault::Disk { file } => file,
+        LaneFault::Closed { file } => file,
     }
 }

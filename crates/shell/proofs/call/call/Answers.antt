@@ -1,6 +1,13 @@
-use Rattle.std.proofs.Common.{inr}
+use Rattle.std.proofs.Common.{inr, refl}
 use Rattle.shell.specs.ReadScript.{script_of}
 use Rattle.shell.proofs.call.call.Goals as goal
 
-pub returns-in-Ok-clause-lasts : goal.returns-in-Ok-clause-lasts
-returns-in-Ok-clause-lasts g c = inr (script_of c.in-Ok.script, c.in-Ok.ensures.script.1, c.run_script.ensures.survives)
+pub returns-in-Ok : goal.returns-in-Ok
+returns-in-Ok g c = inr (inr (record {
+  asks = c.if-not-is_run.ensures.0 refl;
+  read = c.in-Ok.ensures.script.0;
+  script = script_of c.in-Ok.script;
+  is = c.in-Ok.ensures.script.1;
+  runs = c.run_script.ensures.runs;
+  survives = c.run_script.ensures.survives;
+}))

@@ -5,5 +5,4 @@ use Rattle.shell.specs.Text.{reply_text}
 use Rattle.shell.proofs.end.print_replies.Given as goal
 
 abbrev pub invariant-loop-reply : goal.invariant-loop-reply
-invariant-loop-reply g l =
-    Prints l.fn.printer (g.K.Sink.taken l.fn.sink) (g.K.Sink.faults l.fn.sink) (flat_map reply_text (take l.reply-index l.replies)) l.printer (g.K.Sink.taken l.sink) (g.K.Sink.faults l.sink)
+invariant-loop-reply g l = Prints g.K.Sink (flat_map reply_text (take l.reply-index l.replies)) l.fn.printer l.fn.sink l.printer l.sink

@@ -10,8 +10,8 @@ use Rattle.shell.proofs.Faults.{stands_from}
 use Rattle.shell.proofs.Words.{at_err, at_this}
 use Rattle.shell.specs.declared.stop.Stop.TheVariants.{OutOfMemory}
 use Rattle.shell.specs.declared.reply.Reply.{Reply}
-use Rattle.shell.specs.declared.statement.Statement.{Statement}
-use Rattle.shell.specs.declared.statement.Statement.TheVariants.{Insert}
+use Rattle.shell.specs.declared.statement.KvStatement.{KvStatement}
+use Rattle.shell.specs.declared.statement.KvStatement.TheVariants.{Insert}
 use Rattle.shell.proofs.run.answer_all.Goals as goal
 
 pub returns-in_err-reply-clause-err : goal.returns-in_err-reply-clause-err
@@ -29,36 +29,36 @@ returns-in_err-reply-clause-memory g c =
     let statements = c.args.statements.now in
     let old = c.args.session.now in
     let new = c.answer.new.self in
-    let content = g.D.Disk.content in
-    let kept : c.in_err-reply.field-0.0 ≡ OutOfMemory → (pairs : Pairs) → Keeps content old pairs → Keeps content new (pairs_after_all pairs (take (vec_len c.loop-statement.replies) statements)) =
-    λ short pairs keeps. subst (λ (n : ℕ). Keeps content new (pairs_after_all pairs (take n statements))) (sym so_far.1) (c.in_err-reply.ensures.memory short (pairs_after_all pairs (take c.loop-statement.statement-index statements)) (so_far.0.each pairs keeps).1) in
-    at_this (λ stop. stop ≡ OutOfMemory → (pairs : Pairs) → Keeps content old pairs → Keeps content new (pairs_after_all pairs (take (vec_len c.loop-statement.replies) statements)))
+    let d = g.D.Disk in
+    let kept : c.in_err-reply.field-0.0 ≡ OutOfMemory → (pairs : Pairs) → Keeps d old pairs → Keeps d new (pairs_after_all pairs (take (vec_len c.loop-statement.replies) statements)) =
+    λ short pairs keeps. subst (λ (n : ℕ). Keeps d new (pairs_after_all pairs (take n statements))) (sym so_far.1) (c.in_err-reply.ensures.memory short (pairs_after_all pairs (take c.loop-statement.statement-index statements)) (so_far.0.each pairs keeps).1) in
+    at_this (λ stop. stop ≡ OutOfMemory → (pairs : Pairs) → Keeps d old pairs → Keeps d new (pairs_after_all pairs (take (vec_len c.loop-statement.replies) statements)))
     c.from_residual.result c.in_err-reply.field-0.0 c.from_residual.ensures.1 kept
 
 pub returns-in_err-reply-clause-stopped : goal.returns-in_err-reply-clause-stopped
 returns-in_err-reply-clause-stopped g c =
-    let D = g.D.Disk in
+    let d = g.D.Disk in
     let so_far = c.loop-statement.invariant in
     let statements = c.args.statements.now in
     let i = c.loop-statement.statement-index in
-    let s : Statement = get_or statements i (Insert (pos 0) (pos 0)) in
+    let s : KvStatement = get_or statements i (Insert (pos 0) (pos 0)) in
     let more = (take_at_read statements i (Insert (pos 0) (pos 0)) (omega arith)).1 in
     let old = c.args.session.now in
     let new = c.answer.new.self in
-    let stopped = stopped_there D.content D.may_leave D.moment D.left_since old c.loop-statement.session new statements i s more so_far.4 c.answer.ensures.moments c.answer.ensures.crash in
-    at_err c.from_residual.result (λ pairs secures. subst (λ (n : ℕ). Outlasts D.may_leave D.moment D.left_since pairs statements n (n + 1) (disk_of old.writer) (disk_of new.writer)) (sym so_far.1) (stopped pairs secures))
+    let stopped = stopped_there d old c.loop-statement.session new statements i s more so_far.4 c.answer.ensures.moments c.answer.ensures.crash in
+    at_err c.from_residual.result (λ pairs secures. subst (λ (n : ℕ). Outlasts d pairs statements n (n + 1) (disk_of old.writer) (disk_of new.writer)) (sym so_far.1) (stopped pairs secures))
 
 pub returns-in_err-reply-clause-short : goal.returns-in_err-reply-clause-short
 returns-in_err-reply-clause-short g c =
-    let D = g.D.Disk in
+    let d = g.D.Disk in
     let so_far = c.loop-statement.invariant in
     let statements = c.args.statements.now in
     let old = c.args.session.now in
     let new = c.answer.new.self in
     let n = vec_len c.loop-statement.replies in
-    let kept : c.in_err-reply.field-0.0 ≡ OutOfMemory → (pairs : Pairs) → Secures D.content D.may_leave old pairs → Outlasts D.may_leave D.moment D.left_since pairs statements n n (disk_of old.writer) (disk_of new.writer) =
-    λ short pairs secures. subst (λ (k : ℕ). Outlasts D.may_leave D.moment D.left_since pairs statements k k (disk_of old.writer) (disk_of new.writer)) (sym so_far.1) (short_there D.content D.may_leave D.moment D.left_since old c.loop-statement.session new statements c.loop-statement.statement-index so_far.4 (c.in_err-reply.ensures.short short) pairs secures) in
-    at_this (λ stop. stop ≡ OutOfMemory → (pairs : Pairs) → Secures D.content D.may_leave old pairs → Outlasts D.may_leave D.moment D.left_since pairs statements n n (disk_of old.writer) (disk_of new.writer))
+    let kept : c.in_err-reply.field-0.0 ≡ OutOfMemory → (pairs : Pairs) → Secures d old pairs → Outlasts d pairs statements n n (disk_of old.writer) (disk_of new.writer) =
+    λ short pairs secures. subst (λ (k : ℕ). Outlasts d pairs statements k k (disk_of old.writer) (disk_of new.writer)) (sym so_far.1) (short_there d old c.loop-statement.session new statements c.loop-statement.statement-index so_far.4 (c.in_err-reply.ensures.short short) pairs secures) in
+    at_this (λ stop. stop ≡ OutOfMemory → (pairs : Pairs) → Secures d old pairs → Outlasts d pairs statements n n (disk_of old.writer) (disk_of new.writer))
     c.from_residual.result c.in_err-reply.field-0.0 c.from_residual.ensures.1 kept
 
 pub returns-in_err-reply-clause-still : goal.returns-in_err-reply-clause-still
@@ -71,17 +71,17 @@ returns-clause-still g c = c.loop-statement.invariant.3
 
 pub loop-statement-preserved : goal.loop-statement-preserved
 loop-statement-preserved g c =
-    let D = g.D.Disk in
+    let d = g.D.Disk in
     let so_far = c.loop-statement.invariant in
     let pushed = rw c.unwrap.ensures at c.push.ensures.items in
     let statements = c.args.statements.now in
     let i = c.loop-statement.statement-index in
-    let s : Statement = get_or statements i (Insert (pos 0) (pos 0)) in
+    let s : KvStatement = get_or statements i (Insert (pos 0) (pos 0)) in
     let more = (take_at_read statements i (Insert (pos 0) (pos 0)) (omega arith)).1 in
-    let answered = one_more_answered g.D.Disk.content c.args.session.now c.loop-statement.session c.answer.new.self statements i s c.loop-statement.replies.items c.in_ok-reply.reply more so_far.0 c.in_ok-reply.ensures.reply in (
-      subst (λ (l : List Reply). Answered g.D.Disk.content c.args.session.now c.answer.new.self statements (i + 1) l) (sym pushed) answered,
+    let answered = one_more_answered d c.args.session.now c.loop-statement.session c.answer.new.self statements i s c.loop-statement.replies.items c.in_ok-reply.reply more so_far.0 c.in_ok-reply.ensures.reply in (
+      subst (λ (l : List Reply). Answered d c.args.session.now c.answer.new.self statements (i + 1) l) (sym pushed) answered,
       rw c.unwrap.ensures at c.push.ensures.len ∙ ap (λ n. n + 1) so_far.1,
       omega arith,
       c.in_ok-reply.ensures.still ∙ so_far.3,
-      one_more_lasted D.content D.may_leave D.moment D.left_since c.args.session.now c.loop-statement.session c.answer.new.self statements i s more so_far.4 c.answer.ensures.moments c.in_ok-reply.ensures.durable,
+      one_more_lasted d c.args.session.now c.loop-statement.session c.answer.new.self statements i s more so_far.4 c.answer.ensures.moments c.in_ok-reply.ensures.durable,
     )

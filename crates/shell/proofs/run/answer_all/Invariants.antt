@@ -6,6 +6,6 @@ use Rattle.shell.proofs.run.answer_all.Given as goal
 
 abbrev pub invariant-loop-statement : goal.invariant-loop-statement
 invariant-loop-statement g l =
-    Answered g.D.Disk.content l.fn.session l.session l.statements l.statement-index l.replies.items × (vec_len l.replies ≡ l.statement-index) × (length l.statements ≤ vec_capacity l.replies)
+    Answered g.D.Disk l.fn.session l.session l.statements l.statement-index l.replies.items × (vec_len l.replies ≡ l.statement-index) × (length l.statements ≤ vec_capacity l.replies)
     × (g.D.Disk.faults (disk_of l.session.writer) ≡ g.D.Disk.faults (disk_of l.fn.session.writer))
-    × Lasted g.D.Disk.content g.D.Disk.may_leave g.D.Disk.moment g.D.Disk.left_since l.fn.session l.session l.statements l.statement-index
+    × Lasted g.D.Disk l.fn.session l.session l.statements l.statement-index

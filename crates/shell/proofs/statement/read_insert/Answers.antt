@@ -5,7 +5,7 @@ use Rattle.std.specs.Fmt.{signed_decimal}
 use Rattle.std.proofs.lemmas.Int.{to_z-of_z}
 use Rattle.shell.proofs.Words.{GoesOn, IsNumber, got, missed}
 use Rattle.shell.proofs.Regroup.{insert_line, insert_found}
-use Rattle.shell.specs.declared.statement.Statement.TheVariants.{Insert}
+use Rattle.shell.specs.declared.statement.KvStatement.TheVariants.{Insert}
 use Rattle.shell.proofs.statement.read_insert.Goals as goal
 
 module _ (key value : ℤ) (rest : List ℕ) where

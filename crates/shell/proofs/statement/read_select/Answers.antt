@@ -5,7 +5,7 @@ use Rattle.std.proofs.lemmas.Int.{to_z-of_z}
 use Rattle.shell.specs.Script.{BeginsWithSelect}
 use Rattle.shell.proofs.Words.{GoesOn, IsNumber, got, missed}
 use Rattle.shell.proofs.Regroup.{select_line, select_found}
-use Rattle.shell.specs.declared.statement.Statement.TheVariants.{Select}
+use Rattle.shell.specs.declared.statement.KvStatement.TheVariants.{Select}
 use Rattle.shell.proofs.statement.read_select.Goals as goal
 
 pub returns-in_err-rest-clause-only : goal.returns-in_err-rest-clause-only

@@ -3,27 +3,27 @@ use Rattle.std.proofs.lemmas.List.{append-nil}
 use Rattle.shell.proofs.printer.Printer.finish.Goals as goal
 
 pub returns-then-failed : goal.returns-then-failed
-returns-then-failed g c start before text is =
-    let flushed = c.flush.ensures.printed start before text is in
+returns-then-failed g c start text is =
+    let flushed = c.flush.ensures.printed start text is in
     record {
       front = flushed.front;
       rest = flushed.rest;
       text_is = sym (append-nil text) ∙ flushed.text_is;
       took = flushed.took;
       whole = tt;
+      still = tt;
       failed = flushed.cause c.if-failed.true;
-      later = flushed.later;
     }
 
 pub returns-else-failed : goal.returns-else-failed
-returns-else-failed g c start before text is =
-    let flushed = c.flush.ensures.printed start before text is in
+returns-else-failed g c start text is =
+    let flushed = c.flush.ensures.printed start text is in
     record {
       front = flushed.front;
       rest = flushed.rest;
       text_is = sym (append-nil text) ∙ flushed.text_is;
       took = flushed.took;
       whole = flushed.waits c.if-failed.false ∙ c.flush.ensures.empty;
+      still = flushed.still c.if-failed.false;
       failed = tt;
-      later = flushed.later;
     }

@@ -3,9 +3,9 @@ use Rattle.std.proofs.lemmas.Int.{to_z-of_z, ints}
 use Rattle.shell.proofs.reply.Reply.print.Goals as goal
 
 pub returns-in-Duplicate : goal.returns-in-Duplicate
-returns-in-Duplicate g c start before text is =
+returns-in-Duplicate g c start text is =
     let fits : FitsSigned w64 c.in-Duplicate.key = search (rules, ints) in
-    let printed = c.print_between.ensures start before text is in
+    let printed = c.print_between.ensures start text is in
     rw c.in-Duplicate.is (rw (to_z-of_z w64 c.in-Duplicate.key fits) at printed)
 
 -- three texts printed one after the other are one
@@ -13,7 +13,7 @@ one_text : (text a b c : List ℕ) → text ++ (a ++ b ++ c) ≡ text ++ a ++ b 
 one_text text a b c = simp append_assoc
 
 pub returns-in-LogFull : goal.returns-in-LogFull
-returns-in-LogFull g c start before text is =
-    let front = c.print_between-in-LogFull.ensures start before text is in
-    let printed = c.print-in-LogFull.ensures start before _ (c.print_number.ensures start before _ front) in
+returns-in-LogFull g c start text is =
+    let front = c.print_between-in-LogFull.ensures start text is in
+    let printed = c.print-in-LogFull.ensures start _ (c.print_number.ensures start _ front) in
     rw (c.in-LogFull.is, one_text) printed

@@ -1,4 +1,5 @@
-use Rattle.std.proofs.Common.{◌≡◌, ℕ, ◌+◌, ◌*◌, List, length, map, Option, sym, ◌∙◌, ap, subst, arith}
+use Rattle.std.proofs.Common.{◌≡◌, ℕ, ◌+◌, ◌*◌, List, length, map, Option, refl, sym, ◌∙◌, ap, subst, arith}
+use Rattle.disk_core.specs.declared.disk.Disk.{Ghosts}
 use Rattle.lane_format.specs.Lane.{IsLane, lane_text}
 use Rattle.lane_format.specs.Writer.{Holds, disk_of, lane_of, stage_of}
 use Rattle.lane_format.specs.declared.writer.LaneWriter.{LaneWriter}
@@ -14,13 +15,14 @@ use Rattle.shell.proofs.session.Session.go_on.Goals as goal
 at_gate : (at batches count : ℕ) (pairs : Pairs) → at ≡ 11 + 21 * batches → batches ≡ count → count ≡ length pairs → at ≡ gate_place (length pairs)
 at_gate at batches count pairs is same there = omega (arith, is, same, there)
 
-opened : {D : Type 0} (content : D → Option (List ℕ)) (w : LaneWriter D) (disk : D) (pairs : Pairs) → disk_of w ≡ disk → lane_of w ≡ 0 → stage_of w ≡ Open 2 (gate_place (length pairs))
-    → ForSome (content disk) (IsLogOf pairs) → Holds content w 2 (map pair_body pairs)
-opened content w disk pairs same lane stage is = record {
+opened : {D : Type 0} (d : Ghosts D) (w : LaneWriter D) (disk : D) (pairs : Pairs) → disk_of w ≡ disk → lane_of w ≡ 0 → stage_of w ≡ Open 2 (gate_place (length pairs))
+    → ForSome (d.content disk) (IsLogOf pairs) → Holds d w 2 (map pair_body pairs)
+opened d w disk pairs same lane stage is = record {
+  even = refl;
   gate = gate_place (length pairs);
   stage = stage;
   place = λ bytes told. sym (length-log pairs) ∙ ap (λ (l : ℕ). length (lane_text 2 l (map pair_body pairs))) (sym lane);
-  file = λ bytes told. subst (λ (l : ℕ). IsLane 2 l (map pair_body pairs) bytes) (sym lane) (is bytes (ap content (sym same) ∙ told)).lane;
+  file = λ bytes told. subst (λ (l : ℕ). IsLane 2 l (map pair_body pairs) bytes) (sym lane) (is bytes (ap d.content (sym same) ∙ told)).lane;
 }
 
 pub adopt_open-writer-requires-clause-open : goal.adopt_open-writer-requires-clause-open
@@ -38,13 +40,13 @@ returns-clause-keeps g c pairs is logged reads =
       logged = logged;
       lane = c.adopt_open-writer.ensures.lane;
       stage = stage;
-      file = opened g.D.Disk.content c.adopt_open-writer.result c.args.disk pairs c.adopt_open-writer.ensures.disk c.adopt_open-writer.ensures.lane stage reads;
+      file = opened g.D.Disk c.adopt_open-writer.result c.args.disk pairs c.adopt_open-writer.ensures.disk c.adopt_open-writer.ensures.lane stage reads;
     }
 
 pub returns-clause-secures : goal.returns-clause-secures
 returns-clause-secures g c pairs is logged reads bytes quiet =
     let D = g.D.Disk in
     let at = at_gate c.gate_place.result c.len.result _ pairs c.gate_place.ensures c.len.ensures.len is.count in
-    let now = quiet_now D.content D.may_leave c.args.disk bytes (IsLane 2 0 (map pair_body pairs)) quiet (reads bytes quiet.0).lane in
+    let now = quiet_now D c.args.disk bytes (IsLane 2 0 (map pair_body pairs)) quiet (reads bytes quiet.0).lane in
     let session : Session g.row.D.Denot = record { writer = c.adopt_open-writer.result; pairs = c.args.pairs } in
-    secures_of D.content D.may_leave session pairs (returns-clause-keeps g c pairs is logged reads) (c.adopt_open-writer.ensures.settled (map pair_body pairs) (at ∙ sym (length-log pairs)) now)
+    secures_of D session pairs (returns-clause-keeps g c pairs is logged reads) (c.adopt_open-writer.ensures.settled (map pair_body pairs) (at ∙ sym (length-log pairs)) now)
