@@ -99,6 +99,10 @@ length-header = refl
 pub length-log : (pairs : Pairs) → length (log_text pairs) ≡ gate_place (length pairs)
 length-log pairs = omega (arith, length-append (header_text 2 0) (batches_text pairs), length-header, length-batches pairs)
 
+-- the place that is computed from the count of a map
+pub at_gate : (at batches count pairs : ℕ) → at ≡ 11 + 21 * batches → batches ≡ count → count ≡ pairs → at ≡ gate_place pairs
+at_gate at batches count pairs is same there = omega (arith, is, same, there)
+
 -- ---- what doesn't go on a log
 
 module _ (pairs : Pairs) (batch : List ℕ) (whole : length batch ≡ 21) (gate : batch ≡ 1 ∷ drop 1 batch) where

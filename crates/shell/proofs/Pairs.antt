@@ -1,5 +1,5 @@
 -- How the pairs change by an insert, in the plain list, in the map and in the log file.
-use Rattle.std.proofs.Common.{◌≡◌, ◌⊎◌, inl, inr, ℕ, ◌+◌, ◌<◌, ◌≤◌, ℤ, Bool, true, false, cond, List, [], ◌∷◌, ◌++◌, length, map, Option, Some, None, is_some, FitsSigned, w64, to_z, of_z, refl, sym, ◌∙◌, ap, subst, arith, Decides, int_cmp}
+use Rattle.std.proofs.Common.{◌≡◌, ◌⊎◌, inl, inr, ℕ, ◌+◌, ◌<◌, ◌≤◌, ℤ, Bool, true, false, true≢false, cond, List, [], ◌∷◌, ◌++◌, length, map, Option, Some, None, is_some, FitsSigned, w64, to_z, of_z, refl, sym, ◌∙◌, ap, subst, arith, Decides, int_cmp}
 use Rattle.std.specs.Ordering.{int_eq}
 use Rattle.std.specs.BTreeMap.{BTreeMap, get, btree_map_len}
 use Rattle.std.proofs.lemmas.Bool.Decides.{Decides-int_eq, nat_tests}
@@ -21,7 +21,7 @@ eq_cases x y = go (int_eq x y) refl (Decides-int_eq x y)
   where
     go : (b : Bool) → int_eq x y ≡ b → Decides (int_eq x y) (x ≡ y) → ((x ≡ y) × (int_eq x y ≡ true)) ⊎ ((x ≡ y → ⊥) × (int_eq x y ≡ false))
     go true e d = inl (d.0 e, e)
-    go false e d = inr (λ same. let t : true ≡ false = sym (d.1 same) ∙ e in cc, e)
+    go false e d = inr (λ same. true≢false (sym (d.1 same) ∙ e), e)
 
 absent_rest : (pair : ℤ × ℤ) (pairs : Pairs) (key : ℤ) → value_of (pair ∷ pairs) key ≡ None → (int_eq key pair.0 ≡ false) × (value_of pairs key ≡ None)
 absent_rest pair pairs key absent = elim (eq_cases key pair.0) [
@@ -46,7 +46,7 @@ value_of-push (pair ∷ pairs) key value q absent =
     let step = value_of-push pairs key value q rest.1 in
     elim (eq_cases q pair.0) [
       | inl here ↦ elim (eq_cases key q) [
-        | inl same ↦ absurd (let t : true ≡ false = sym same.1 ∙ ap (int_eq key) here.0 ∙ rest.0 in cc)
+        | inl same ↦ absurd (true≢false (sym same.1 ∙ ap (int_eq key) here.0 ∙ rest.0))
         | inr apart ↦ rw (here.1, apart.1) refl
       ]
       | inr other ↦ rw other.1 step

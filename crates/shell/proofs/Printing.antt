@@ -1,5 +1,5 @@
 -- What a push brings to the sink.
-use Rattle.std.proofs.Common.{◌≡◌, ℕ, true, false, List, [], ◌++◌, take, drop, Option, Some, None, MatchOption, Result, Ok, Err, is_err, refl, sym, ◌∙◌, ap, subst, append_assoc, take-append-drop}
+use Rattle.std.proofs.Common.{◌≡◌, ℕ, true, false, true≢false, List, [], ◌++◌, take, drop, Option, Some, None, MatchOption, Result, Ok, Err, is_err, refl, sym, ◌∙◌, ap, subst, append_assoc, take-append-drop}
 use Rattle.std.proofs.lemmas.List.{append-nil}
 use Rattle.std.specs.Option.{option_map}
 use Rattle.causes.specs.Causes.{HasCause, one_more}
@@ -32,8 +32,8 @@ module _ {K : Type 0} (k : Ghosts K) where
       rest = is.rest;
       text_is = append-nil text ∙ is.text_is;
       took = is.took;
-      waits = λ works. absurd (let both : true ≡ false = sym stays ∙ works in cc);
-      still = λ works. absurd (let both : true ≡ false = sym stays ∙ works in cc);
+      waits = λ works. absurd (true≢false (sym stays ∙ works));
+      still = λ works. absurd (true≢false (sym stays ∙ works));
       cause = λ _. is.cause failed;
     }
 
@@ -59,7 +59,7 @@ module _ {K : Type 0} (k : Ghosts K) where
       took = all_taken (k.taken start) (k.taken new) (k.taken now) is.front bytes is.took push;
       waits = λ _. sym empty;
       still = λ _. cause.still ∙ is.still works;
-      cause = λ fails. absurd (let both : true ≡ false = sym fails ∙ failed in cc);
+      cause = λ fails. absurd (true≢false (sym fails ∙ failed));
     }
     pushed (Err e) bytes now new works waited empty failed push cause is =
         let more = front_taken (k.taken start) (k.taken new) (k.taken now) is.front bytes is.took push in
@@ -68,8 +68,8 @@ module _ {K : Type 0} (k : Ghosts K) where
           rest = more.1;
           text_is = append-nil text ∙ is.text_is ∙ ap (λ (l : List ℕ). is.front ++ l) (is.waits works ∙ sym waited ∙ more.2) ∙ sym (append_assoc is.front more.0 more.1);
           took = more.3;
-          waits = λ fails. absurd (let both : true ≡ false = sym failed ∙ fails in cc);
-          still = λ fails. absurd (let both : true ≡ false = sym failed ∙ fails in cc);
+          waits = λ fails. absurd (true≢false (sym failed ∙ fails));
+          still = λ fails. absurd (true≢false (sym failed ∙ fails));
           cause = λ _. cause.failed ∙ ap one_more (is.still works);
         }
 
@@ -82,5 +82,5 @@ module _ {K : Type 0} (k : Ghosts K) where
     took = nothing_more (k.taken now);
     waits = λ _. sym empty;
     still = λ _. refl;
-    cause = λ fails. absurd (let both : true ≡ false = sym fails ∙ works in cc);
+    cause = λ fails. absurd (true≢false (sym fails ∙ works));
   }

@@ -1,5 +1,5 @@
 -- A log file of bytes has a reading: it is walked from batch to batch.
-use Rattle.std.proofs.Common.{◌≡◌, ◌≢◌, ◌⊎◌, inl, inr, ℕ, zero, suc, ◌+◌, ◌<◌, ◌≤◌, ℤ, true, false, Bool, is_some, List, [], ◌∷◌, ◌++◌, length, take, drop, get_or, slice_index, Decides, refl, sym, ◌∙◌, ap, subst, append_assoc, arith}
+use Rattle.std.proofs.Common.{◌≡◌, ◌≢◌, ◌⊎◌, inl, inr, ℕ, zero, suc, ◌+◌, ◌<◌, ◌≤◌, ℤ, true, false, true≢false, Bool, is_some, List, [], ◌∷◌, ◌++◌, length, take, drop, get_or, slice_index, Decides, refl, sym, ◌∙◌, ap, subst, append_assoc, arith}
 use Rattle.std.specs.Int.{w32, w64, cast_signed, cast_unsigned, from_le_bytes, to_le_bytes}
 use Rattle.std.proofs.Math.Facts.{sfits_to_z, Fits-of_lt}
 use Rattle.std.proofs.lemmas.Bool.{cases_eq, cases_lt}
@@ -32,7 +32,7 @@ same_or_not xs ys = go (bytes_eq xs ys) refl (bytes_eq-Decides xs ys)
   where
     go : (b : Bool) → bytes_eq xs ys ≡ b → Decides (bytes_eq xs ys) (xs ≡ ys) → (xs ≡ ys) ⊎ (xs ≢ ys)
     go true e d = inl (d.0 e)
-    go false e d = inr (λ same. let t : true ≡ false = sym (d.1 same) ∙ e in cc)
+    go false e d = inr (λ same. true≢false (sym (d.1 same) ∙ e))
 
 some_or_none : (b : Bool) → (b ≡ true) ⊎ (b ≡ false)
 some_or_none true = inl refl

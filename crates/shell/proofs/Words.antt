@@ -1,5 +1,5 @@
 -- What a word at the front of a text leaves.
-use Rattle.std.proofs.Common.{◌≡◌, ◌≢◌, ℕ, ℤ, Bool, true, false, not, IsTrue, Decides, List, ◌++◌, Option, Some, None, MatchOption, IfSome, IsSomeAnd, Bor, Result, Ok, Err, IfOk, IfErr, IsErrAnd, OnErr, refl, sym, ◌∙◌, ap, subst}
+use Rattle.std.proofs.Common.{◌≡◌, ◌≢◌, ℕ, ℤ, Bool, true, false, true≢false, not, IsTrue, Decides, List, ◌++◌, Option, Some, None, MatchOption, IfSome, IsSomeAnd, Bor, Result, Ok, Err, IfOk, IfErr, IsErrAnd, OnErr, refl, sym, ◌∙◌, ap, subst}
 use Rattle.std.proofs.lemmas.List.{append_cancel_left}
 
 module _ (text word : List ℕ) where
@@ -45,17 +45,17 @@ of_told P (Some y) x told is = subst P (cc) told
 -- a test that decides P is true exactly where Q holds, which is the same
 pub tells : {P Q : Type 0} (b test : Bool) → b ≡ test → Decides test P → (P → Q) → (Q → P) → (IsTrue b → Q) × (Q → IsTrue b)
 tells true test is decides there back = (λ _. there (decides.0 (sym is)), λ _. refl)
-tells false test is decides there back = (λ never. absurd cc, λ q. let t : true ≡ false = sym (decides.1 (back q)) ∙ sym is in absurd cc)
+tells false test is decides there back = (λ never. absurd cc, λ q. absurd (true≢false (sym (decides.1 (back q)) ∙ sym is)))
 
 -- what a false answer would tell doesn't hold
 pub never_told : {P : Type 0} (b : Bool) → (IsTrue b → P) × (P → IsTrue b) → b ≡ false → ¬ P
 never_told true told is = absurd cc
-never_told false told is = λ p. let t : true ≡ false = sym (told.1 p) in absurd cc
+never_told false told is = λ p. true≢false (sym (told.1 p))
 
 -- bytes that a test finds unequal, or not
 module _ {P : Type 0} (b test : Bool) (is : b ≡ not test) (decides : Decides test P) where
   pub differs : b ≡ true → ¬ P
-  differs unequal = λ p. let t : true ≡ false = sym unequal ∙ is ∙ ap not (decides.1 p) in absurd cc
+  differs unequal = λ p. true≢false (sym unequal ∙ is ∙ ap not (decides.1 p))
 
   pub equals : b ≡ false → P
   equals equal = decides.0 (not_false test (sym is ∙ equal))

@@ -43,10 +43,7 @@ module _ {S : Type 0} (s : source.Ghosts S) where
   NoScript Source old new = FailsWithin s read_limit old new
   NoScript OutOfMemory old new = ReadsWithin s read_limit old new
   NoScript Script old new = WasRead s old new × GivesNoScript old
-  NoScript Done old new = ⊥
-  NoScript Usage old new = ⊥
-  NoScript (Disk file) old new = ⊥
-  NoScript Damaged old new = ⊥
+  NoScript other old new = ⊥
 
 -- The words ask for no run: nothing was done.
 pub record WrongWords {S D : Type 0} (words : List (List ℕ)) (old new : Outside S D) (view : OutcomeView) : Type 0 where

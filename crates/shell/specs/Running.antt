@@ -69,16 +69,11 @@ module _ {D : Type 0} (d : Ghosts D) where
       ⊎ ((pairs : Pairs) × ForSome (d.content old) (BeginsWith pairs) × RunsShort pairs script shown (d.content new))) × (d.faults new ≡ d.faults old)
   Runs script old Damaged shown new =
       ForSome (d.content old) IsDamaged × (shown ≡ None) × (d.content new ≡ d.content old) × (d.faults new ≡ d.faults old)
-  Runs script old Usage shown new = ⊥
-  Runs script old Source shown new = ⊥
-  Runs script old Script shown new = ⊥
+  Runs script old other shown new = ⊥
 
   -- the file couldn't be opened: it is damaged or memory ran out, and it stays as it was, or its disk failed
   abbrev pub CannotOpen : D → CallEnd → D → Type 0
   CannotOpen old Damaged new = ForSome (d.content old) IsDamaged × (d.content new ≡ d.content old) × (d.faults new ≡ d.faults old)
   CannotOpen old OutOfMemory new = (d.content new ≡ d.content old) × (d.faults new ≡ d.faults old)
   CannotOpen old (Disk file) new = (file ≡ even_file 0) × (d.faults new ≡ one_more (d.faults old))
-  CannotOpen old Done new = ⊥
-  CannotOpen old Usage new = ⊥
-  CannotOpen old Source new = ⊥
-  CannotOpen old Script new = ⊥
+  CannotOpen old other new = ⊥

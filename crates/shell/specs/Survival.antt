@@ -21,12 +21,7 @@ BeforeOrAfter pairs statement image = IsLogOf pairs image ⊎ IsLogOf (pairs_aft
 -- No session was begun: the file is as it was, or, if its disk failed and it wasn't open, one that begins a session with no pairs.
 abbrev pub LeftUnbegun : CallEnd → List ℕ → List ℕ → Type 0
 LeftUnbegun (Disk file) bytes image = (image ≡ bytes) ⊎ (¬ (IsOpen bytes) × BeginsWith [] image)
-LeftUnbegun Done bytes image = image ≡ bytes
-LeftUnbegun Usage bytes image = image ≡ bytes
-LeftUnbegun OutOfMemory bytes image = image ≡ bytes
-LeftUnbegun Source bytes image = image ≡ bytes
-LeftUnbegun Script bytes image = image ≡ bytes
-LeftUnbegun Damaged bytes image = image ≡ bytes
+LeftUnbegun other bytes image = image ≡ bytes
 
 -- the file begins a session with the pairs that some of the statements leave: at least so many, and at most so many, of the first
 abbrev pub HasFirst : Pairs → List KvStatement → ℕ → ℕ → List ℕ → Type 0
@@ -62,9 +57,7 @@ module _ {D : Type 0} (d : Ghosts D) where
       ((shown ≡ None) × LeavesOnly d old new (LeftUnbegun OutOfMemory bytes))
       ⊎ OutlastsStop bytes script StoppedMemory 0 shown old new
   Survives bytes script old Damaged shown new = LeavesOnly d old new (LeftUnbegun Damaged bytes)
-  Survives bytes script old Usage shown new = ⊥
-  Survives bytes script old Source shown new = ⊥
-  Survives bytes script old Script shown new = ⊥
+  Survives bytes script old other shown new = ⊥
 
   -- where the disk's content is known, nothing is pending, and a crash leaves nothing but these bytes
   abbrev pub IsQuiet : D → List ℕ → Type 0

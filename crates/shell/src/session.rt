@@ -39,7 +39,7 @@ impl<D: Disk> Session<D> {
     ghost use Rattle.shell.specs.Running.{CannotOpen, CountStands};
 
     /// Begins over a log file. One that isn't open becomes an open lane with no pairs; one that is the log of
-    /// pairs is gone on with. One that is damaged stays as it was. An `Err` gives the disk back.
+    /// pairs is continued. One that is damaged stays as it was. An `Err` returns the disk.
     pub(crate) fn open(alloc: Global, mut disk: D) -> Result<Session<D>, (CallEnd, D)>
         ensures begun { IfOk result (λ session. (pairs : Pairs) × Keeps D.Disk session pairs
             × ForSome (D.content disk) (BeginsWith pairs)
@@ -94,7 +94,7 @@ impl<D: Disk> Session<D> {
         Session { writer, pairs }
     }
 
-    /// Gives the disk back.
+    /// Returns the disk.
     pub(crate) fn into_disk(self) -> D
         ensures { result ≡ disk_of self.writer }
     {

@@ -5,6 +5,7 @@ use Rattle.shell.specs.Kv.{Pairs}
 use Rattle.shell.specs.Log.{MayBeLogged, gate_place}
 use Rattle.shell.specs.Opening.{Adds, Reached}
 use Rattle.shell.specs.declared.reading.Front.{Front}
+use Rattle.shell.proofs.Batches.{at_gate}
 use Rattle.shell.proofs.Pieces.{piece_adds, piece_breaks, piece_ends}
 use Rattle.shell.proofs.Words.{map_ok, never_told}
 use Rattle.shell.proofs.reading.read_piece.Goals as goal
@@ -19,9 +20,6 @@ module _ (size at len gate : ℕ) (room piece : List ℕ) (at_is : at ≡ gate) 
 
   all_left : len < 21 → gate + length piece ≡ size
   all_left short = omega (arith, piece_len, len_is, at_is, within, short)
-
-at_gate : (at batches count pairs : ℕ) → at ≡ 11 + 21 * batches → batches ≡ count → count ≡ pairs → at ≡ gate_place pairs
-at_gate at batches count pairs is same there = omega (arith, is, same, there)
 
 read_at_gate : (content : Option (List ℕ)) (at gate : ℕ) (piece : List ℕ) → at ≡ gate → IfSome content (λ bytes. piece ≡ take (length piece) (drop at bytes)) → IfSome content (λ bytes. piece ≡ take (length piece) (drop gate bytes))
 read_at_gate content at gate piece is read = subst (λ (n : ℕ). IfSome content (λ bytes. piece ≡ take (length piece) (drop n bytes))) is read
