@@ -71,17 +71,18 @@ check_faults_of_changes() {
     done
 }
 
-# The question for the size and each read of a log file fail in turn, and the reads are interrupted.
+# Over a log file the questions for the size, each read, and the write and the sync that bring it to the disk before it is
+# read fail in turn; the reads and that write are interrupted.
 check_faults_of_reads() {
     local folder call
-    for call in statx:1 pread64:1 pread64:2 pread64:3 pread64:4; do
+    for call in statx:1 statx:2 pread64:1 pread64:2 pread64:3 pread64:4 pread64:5 pwrite64:1 fdatasync:1; do
         folder_with_pair
         run_traced "$folder" "$three_lookups" "$folder/lane0.even" "inject=${call%:*}:error=EIO:when=${call#*:}"
         want_status 4
         want_shown "$disk_fault"
         want_hex "$folder/lane0.even" "$head_hex${pair_hex}00"
         end_case "${call/:/ } fails"
-        [ "$call" = statx:1 ] && continue
+        [[ "$call" == statx:* ]] && continue
 
         folder_with_pair
         run_traced "$folder" "$three_lookups" "$folder/lane0.even" "inject=${call%:*}:error=EINTR:when=${call#*:}"
@@ -151,11 +152,11 @@ check_faults_of_output() {
 
 # An insert into a folder with no log file, and a look-up in a log: these calls are made, and no others.
 check_calls() {
-    local folder calls=openat,flock,fadvise64,statx,pread64,pwrite64,fdatasync,fsync,ftruncate,close
+    local folder calls=openat,flock,statx,pread64,pwrite64,fdatasync,fsync,ftruncate,close
     new_folder
     run_traced "$folder" "$(cat "$checks/cases/row/script")"$'\n' "$folder/lane0.even" "trace=$calls"
     want_status 0
-    cmp -s <(calls_on_log) <(printf '%s\n' openat flock fdatasync fadvise64 statx 'pwrite64 1 0' fdatasync 'pwrite64 11 1' fdatasync \
+    cmp -s <(calls_on_log) <(printf '%s\n' openat flock statx fdatasync statx 'pwrite64 1 0' fdatasync 'pwrite64 11 1' fdatasync \
         'pwrite64 1 0' fdatasync 'pwrite64 21 12' fdatasync 'pwrite64 1 11' fdatasync close) ||
         differs "the calls are $(calls_on_log | tr '\n' ';')"
     end_case 'calls of an insert'
@@ -163,8 +164,8 @@ check_calls() {
     folder_with_pair
     run_traced "$folder" "$three_lookups" "$folder/lane0.even" "trace=$calls"
     want_status 0
-    cmp -s <(calls_on_log) <(printf '%s\n' openat flock fdatasync fadvise64 statx 'pread64 1 0' 'pread64 11 0' 'pread64 22 11' \
-        'pread64 1 32' close) ||
+    cmp -s <(calls_on_log) <(printf '%s\n' openat flock statx 'pread64 33 0' 'pwrite64 33 0' fdatasync statx 'pread64 1 0' \
+        'pread64 11 0' 'pread64 22 11' 'pread64 1 32' close) ||
         differs "the calls are $(calls_on_log | tr '\n' ';')"
     end_case 'calls of a look-up'
 }

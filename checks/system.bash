@@ -98,7 +98,7 @@ check_short_write_of_output() {
 # The calls on the log file but for those that open, measure and close it are these.
 want_transfers() {
     local calls
-    calls="$(calls_on_log | grep -v 'openat\|flock\|fadvise\|statx\|close')"
+    calls="$(calls_on_log | grep -v 'openat\|flock\|statx\|close')"
     [ "$calls" = "$(printf '%s\n' "$@")" ] || differs "the calls are $(tr '\n' ';' <<<"$calls")"
 }
 
@@ -111,14 +111,14 @@ check_short_calls() {
         return
     fi
     folder_with_pair
-    run_traced "$folder" "$one_insert" "$folder/lane0.even" "trace=$calls" -e inject=pwrite64:retval=5:when=1
-    want_transfers fdatasync 'pread64 1 0' 'pread64 11 0' 'pread64 22 11' 'pread64 1 32' 'pwrite64 21 33' 'pwrite64 16 38' fdatasync \
-        'pwrite64 1 32' fdatasync
+    run_traced "$folder" "$one_insert" "$folder/lane0.even" "trace=$calls" -e inject=pwrite64:retval=5:when=2
+    want_transfers 'pread64 33 0' 'pwrite64 33 0' fdatasync 'pread64 1 0' 'pread64 11 0' 'pread64 22 11' 'pread64 1 32' \
+        'pwrite64 21 33' 'pwrite64 16 38' fdatasync 'pwrite64 1 32' fdatasync
     end_case 'short write'
 
     folder_with_pair
-    run_traced "$folder" "$one_insert" "$folder/lane0.even" "trace=$calls" -e inject=pread64:retval=3:when=2
-    want_transfers fdatasync 'pread64 1 0' 'pread64 11 0' 'pread64 8 3'
+    run_traced "$folder" "$one_insert" "$folder/lane0.even" "trace=$calls" -e inject=pread64:retval=3:when=3
+    want_transfers 'pread64 33 0' 'pwrite64 33 0' fdatasync 'pread64 1 0' 'pread64 11 0' 'pread64 8 3'
     want_status 8
     end_case 'short read'
 
@@ -168,13 +168,13 @@ unmount_disk() {
     device=
 }
 
-# Stops the program behind its second write of the log file, which opens a gate; then the part of the disk where the file
+# Stops the program behind its third write of the log file, which opens a gate; then the part of the disk where the file
 # lies is gone, and the sync fails.
 insert_and_lose_gate() {
     local block tracer pid turns
     block="$(filefrag -v -b4096 "$scratch/disk/lane0.even" | awk '$1 == "0:" { print $4 + 0 }')"
     printf '%s' "$one_insert" >"$scratch/script"
-    strace -f -qq -o "$scratch/calls" -P "$scratch/disk/lane0.even" -e inject=pwrite64:signal=STOP:when=2 \
+    strace -f -qq -o "$scratch/calls" -P "$scratch/disk/lane0.even" -e inject=pwrite64:signal=STOP:when=3 \
         "$program" run "$scratch/disk" <"$scratch/script" >"$scratch/stdout" 2>/dev/null &
     tracer=$!
     for ((turns = 0; turns < 200; turns++)); do
@@ -189,8 +189,8 @@ insert_and_lose_gate() {
     limit_device "$device" 0
 }
 
-# A sync fails, so a gate never reaches the disk, while the system goes on giving it to whoever reads. The next run has to
-# see what the disk has: what it acknowledges behind that gate would be lost with it.
+# A sync fails, so a gate never reaches the disk, while the system gives it to whoever reads. The next run has to bring it
+# there: what that run acknowledges behind the gate would else be lost with it.
 check_lost_sync() {
     if ! can_lose_writes; then
         skip_cases 1 'lost_sync needs root, strace, python3, loop devices and ext4'
@@ -212,7 +212,7 @@ check_lost_sync() {
     step "$scratch/disk" 0 $'session 1\nINSERT INTO kv VALUES (3, 30);\n' $'session 1\nok 1\n'
     umount "$scratch/disk"
     mount "$device" "$scratch/disk"
-    step "$scratch/disk" 0 "$three_lookups" $'session 1\n1, 10\nrows 1\nrows 0\n3, 30\nrows 1\n'
+    step "$scratch/disk" 0 "$three_lookups" $'session 1\n1, 10\nrows 1\n2, 20\nrows 1\n3, 30\nrows 1\n'
     unmount_disk
     end_case lost_sync
 }

@@ -9,7 +9,6 @@ use crate::{Disk, Failed};
 use std::fs::File;
 use std::io;
 use std::marker::Model;
-use std::os::fd::AsRawFd;
 use std::os::unix::fs::FileExt;
 
 /// A file of the system, read and written at places. A read, a write or a sync that a signal interrupts is made
@@ -30,8 +29,8 @@ impl Model for FileDisk {
 }
 
 impl FileDisk {
-    /// Brings to the disk what was written to the file before, so that nothing is pending, and has reads come from the
-    /// disk. Where that fails the file counts as missing.
+    /// Brings to the disk what a read of the file gives, so that nothing is pending. Where that fails the file counts as
+    /// missing.
     pub fn new(file: File) -> FileDisk
         ensures { result.faults ≡ 0 }
     {
@@ -66,14 +65,27 @@ impl FileDisk {
     }
 }
 
-/// Syncs the file and drops the system's copies of its pages. After a sync that failed in an earlier process the system
-/// takes a page for clean that never reached the disk, and would give it to each reader until the machine stops.
+/// How many bytes are rewritten at once.
+const PIECE: usize = 8192;
+
+/// Writes the bytes of the file once more, and brings them to the disk. After a sync that failed in an earlier process
+/// the system takes a page for clean that never reached the disk, and gives it to each reader; written again, it is
+/// pending again.
 fn settle(file: &File) -> io::Result<()> {
-    file.sync_data()?;
-    match libc::posix_fadvise(file.as_raw_fd(), 0, 0, libc::POSIX_FADV_DONTNEED) {
-        0 => Ok(()),
-        error => Err(io::Error::from_raw_os_error(error)),
+    let size = file.metadata()?.len();
+    for i in 0..size.div_ceil(PIECE as u64) {
+        rewrite(file, i * PIECE as u64, size)?;
     }
+    file.sync_data()
+}
+
+/// Writes the bytes from `at` on once more, as many as a piece has and the file of that size.
+fn rewrite(file: &File, at: u64, size: u64) -> io::Result<()> {
+    let mut room = [0; PIECE];
+    let len = size.saturating_sub(at).min(PIECE as u64) as usize;
+    let piece = &mut room[..len];
+    file.read_exact_at(piece, at)?;
+    file.write_all_at(piece, at)
 }
 
 fn length_of(file: &Option<File>) -> Result<u64, Failed>
