@@ -21,7 +21,7 @@ plays_once first a b ops p q = once [] first a b ops p q
 -- ---- rows in order
 
 module _ (marks : List ℕ) where
-  abbrev Rise : Rows → Type 0
+  abbrev pub Rise : Rows → Type 0
   Rise rows = AreRising (map (row_key marks) rows)
 
   above_filter : (k : ℕ) (test : List Value → Bool) (rows : Rows) → AllByRecursion (λ other. k < other) (map (row_key marks) rows) → AllByRecursion (λ other. k < other) (map (row_key marks) (filter test rows))
@@ -32,7 +32,7 @@ module _ (marks : List ℕ) where
         | false ↦ above_filter k test rows all.1
       ]
 
-  rise_filter : (test : List Value → Bool) (rows : Rows) → Rise rows → Rise (filter test rows)
+  pub rise_filter : (test : List Value → Bool) (rows : Rows) → Rise rows → Rise (filter test rows)
   rise_filter test [] rise = tt
   rise_filter test (row ∷ rows) rise =
       elim (test row) as (λ b. Rise (cond b (row ∷ filter test rows) (filter test rows))) [
@@ -72,13 +72,13 @@ module _ (marks : List ℕ) where
   rise_join row (r ∷ low) high rise-low rise-high under over =
       (above_join (row_key marks r) row low high rise-low.0 under.0 (above_more (row_key marks r) (row_key marks row) high under.0 over), rise_join row low high rise-low.1 rise-high under.1 over)
 
-  rise_with_row : (rows : Rows) (row : List Value) → Rise rows → Rise (with_row marks rows row)
+  pub rise_with_row : (rows : Rows) (row : List Value) → Rise rows → Rise (with_row marks rows row)
   rise_with_row rows row rise =
       let k = row_key marks row in
       rise_join row (filter (λ other. nat_lt (row_key marks other) k) rows) (filter (λ other. nat_lt k (row_key marks other)) rows)
       (rise_filter (λ other. nat_lt (row_key marks other) k) rows rise) (rise_filter (λ other. nat_lt k (row_key marks other)) rows rise) (below_filter k rows) (over_filter k rows)
 
-all_filter : (P : List Value → Type 0) (test : List Value → Bool) (rows : Rows) → AllByRecursion P rows → AllByRecursion P (filter test rows)
+pub all_filter : (P : List Value → Type 0) (test : List Value → Bool) (rows : Rows) → AllByRecursion P rows → AllByRecursion P (filter test rows)
 all_filter P test [] all = tt
 all_filter P test (row ∷ rows) all =
     elim (test row) as (λ b. AllByRecursion P (cond b (row ∷ filter test rows) (filter test rows))) [ true ↦ (all.0, all_filter P test rows all.1) | false ↦ all_filter P test rows all.1 ]
@@ -87,7 +87,7 @@ all_join : (P : List Value → Type 0) (low high : Rows) (row : List Value) → 
 all_join P [] high row low-all one high-all = (one, high-all)
 all_join P (r ∷ low) high row low-all one high-all = (low-all.0, all_join P low high row low-all.1 one high-all)
 
-put_rows : (t : TableRows) (row : List Value) → IsTableRows t → IsRowOf t.def.columns row → IsTableRows (record t { rows = with_row t.def.keys t.rows row })
+pub put_rows : (t : TableRows) (row : List Value) → IsTableRows t → IsRowOf t.def.columns row → IsTableRows (record t { rows = with_row t.def.keys t.rows row })
 put_rows t row is fits = record {
   fits = all_join (IsRowOf t.def.columns) _ _ row (all_filter (IsRowOf t.def.columns) _ t.rows is.fits) fits (all_filter (IsRowOf t.def.columns) _ t.rows is.fits);
   rising = rise_with_row t.def.keys t.rows row is.rising;

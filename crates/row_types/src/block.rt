@@ -63,16 +63,47 @@ impl TryCopy for PlacedText {
     }
 }
 
+/// How a block that begins with BEGIN ends.
+#[derive(Clone, Copy, Debug, PartialEq, Eq, Drop)]
+pub enum BlockEnd {
+    /// By its first COMMIT.
+    Commit,
+    /// By its first ROLLBACK.
+    Rollback,
+    /// By the end of its section: it is rolled back, without a reply for that.
+    CutOff,
+}
+
+/// A block that begins with BEGIN: the statements behind it, up to its end, which isn't among them.
+#[derive(Debug, Drop)]
+pub struct Transaction {
+    pub statements: Items<PlacedText>,
+    pub end: BlockEnd,
+}
+
+impl TryCopy for Transaction {
+    fn copy(&self) -> Result<Transaction, OutOfMemory> {
+        Ok(Transaction {
+            statements: self.statements.copy()?,
+            end: self.end,
+        })
+    }
+}
+
 /// A block of a script: the statements that are run as one.
 #[derive(Debug, Drop)]
-pub struct Block {
-    pub statements: Items<PlacedText>,
+pub enum Block {
+    /// A statement that stands outside BEGIN and its end.
+    Alone(PlacedText),
+    /// BEGIN, and what follows it up to its end.
+    Transaction(Transaction),
 }
 
 impl TryCopy for Block {
     fn copy(&self) -> Result<Block, OutOfMemory> {
-        Ok(Block {
-            statements: self.statements.copy()?,
-        })
+        match self {
+            Block::Alone(statement) => Ok(Block::Alone(statement.copy()?)),
+            Block::Transaction(transaction) => Ok(Block::Transaction(transaction.copy()?)),
+        }
     }
 }

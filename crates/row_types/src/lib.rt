@@ -12,7 +12,7 @@ mod schema_text;
 mod slot;
 mod text;
 
-pub use block::{Block, PlacedText};
+pub use block::{Block, BlockEnd, PlacedText, Transaction};
 pub use causes::OutOfMemory;
 pub use definition::{Column, Kind, TableDef};
 pub use fault::{SchemaFault, SlotFault};

@@ -1,7 +1,7 @@
 // Worked examples from outside, and that each call succeeds with ample memory.
 use row_types::{
-    Block, Items, Name, PlacedText, Row, Schema, SchemaFault, SlotFault, TableDef, Text, TryCopy,
-    Value, schema_texts_are_short,
+    BlockEnd, Items, Name, PlacedText, Row, Schema, SchemaFault, SlotFault, TableDef, Text,
+    Transaction, TryCopy, Value, schema_texts_are_short,
 };
 use sql_parse::{Statement, parse};
 use std::alloc::Global;
@@ -211,8 +211,10 @@ fn statements_keep_text_and_place(rt: HostRuntime) -> Result<(), Fail> {
     assert!(rt; text.as_str().len() < 7);
     let mut statements = Items::new(alloc);
     statements.push(PlacedText::new(5, text.copy()?))?;
-    let block = Block { statements };
-    let kept = block.copy()?.statements.into_vec();
+    let end = BlockEnd::Rollback;
+    let block = Transaction { statements, end }.copy()?;
+    assert_eq!(rt; block.end, end);
+    let kept = block.statements.into_vec();
     assert_eq!(rt; kept.len(), 1);
     assert_eq!(rt; kept[0].base(), 5);
     assert_eq!(rt; *kept[0].text(), text);
