@@ -7,7 +7,7 @@ use Rattle.row_types.specs.declared.definition.TableDef.{TableDef}
 use Rattle.row_types.specs.declared.schema_text.ReadError.{ReadError}
 use Rattle.row_types.specs.declared.schema_text.ReadError.TheVariants as errors
 use Rattle.row_types.specs.Schema.{refusal}
-use Rattle.row_types.specs.SchemaReading.{◌>>=◌, Fails, column_at, columns_from, byte_at, table_at, tables_from, schema_at}
+use Rattle.row_types.specs.SchemaReading.{◌>>=◌, FailsToRead, column_at, columns_from, byte_at, table_at, tables_from, schema_at}
 
 -- what was read before, and what is still read
 abbrev pub with_front : List Column → Option (List Column × List ℕ) → Option (List Column × List ℕ)
@@ -26,7 +26,7 @@ module _ (front : List Column) (count i : ℕ) (bytes : List ℕ) (total : Optio
       let one : with_front front (columns_from (count - i) bytes) ≡ with_front (front ++ c ∷ []) (columns_from (count - (i + 1)) after) = rw (k, h) (regroup front c (columns_from (count - (i + 1)) after)) in
       sym one ∙ so_far
 
-  pub columns_end : (e : ReadError) → i < count → Fails e (column_at bytes) → with_front front (columns_from (count - i) bytes) ≡ total → Fails e total
+  pub columns_end : (e : ReadError) → i < count → FailsToRead e (column_at bytes) → with_front front (columns_from (count - i) bytes) ≡ total → FailsToRead e total
   unfolding columns_from
   columns_end errors.Memory lt h so_far = tt
   columns_end errors.Invalid lt h so_far =
@@ -50,7 +50,7 @@ module _ (tables : List TableDef) (count i : ℕ) (bytes : List ℕ) (total : Op
       let one : tables_from (count - i) tables bytes ≡ tables_from (count - (i + 1)) (tables ++ t ∷ []) after = rw (k, h, none) refl in
       sym one ∙ so_far
 
-  pub tables_end : (e : ReadError) → i < count → Fails e (table_at bytes) → tables_from (count - i) tables bytes ≡ total → Fails e total
+  pub tables_end : (e : ReadError) → i < count → FailsToRead e (table_at bytes) → tables_from (count - i) tables bytes ≡ total → FailsToRead e total
   unfolding tables_from
   tables_end errors.Memory lt h so_far = tt
   tables_end errors.Invalid lt h so_far =
@@ -72,12 +72,12 @@ module _ (tables : List TableDef) (count i : ℕ) (bytes : List ℕ) (total : Op
       let one : tables_from (count - i) tables bytes ≡ Some (tables, bytes) = rw k refl in
       sym so_far ∙ one
 
-  pub tables_refused : (e : ReadError) (t : TableDef) (after : List ℕ) → i < count → table_at bytes ≡ Some (t, after) → (e ≡ errors.Invalid → IsSome (refusal tables t)) → tables_from (count - i) tables bytes ≡ total → Fails e total
+  pub tables_refused : (e : ReadError) (t : TableDef) (after : List ℕ) → i < count → table_at bytes ≡ Some (t, after) → (e ≡ errors.Invalid → IsSome (refusal tables t)) → tables_from (count - i) tables bytes ≡ total → FailsToRead e total
   tables_refused errors.Memory t after lt h some so_far = tt
   tables_refused errors.Invalid t after lt h some so_far = tables_refuse t after lt h (ap not (some refl)) so_far
 
 module _ (bytes : List ℕ) (count : ℕ) (rest : List ℕ) (begins : byte_at bytes ≡ Some (count, rest)) where
-  pub schema_fails : (e : ReadError) → Fails e (tables_from count [] rest) → Fails e (schema_at bytes)
+  pub schema_fails : (e : ReadError) → FailsToRead e (tables_from count [] rest) → FailsToRead e (schema_at bytes)
   unfolding schema_at
   schema_fails errors.Memory fails = tt
   schema_fails errors.Invalid fails = rw (begins, fails) refl

@@ -17,14 +17,14 @@ None >>= f = None
 (Some x) >>= f = f x
 
 -- the failure of a reading: memory ran out, or nothing is read
-abbrev pub Fails : {Y : Type 0} → ReadError → Option Y → Type 0
-Fails errors.Memory read = Unit {0}
-Fails errors.Invalid read = read ≡ None
+abbrev pub FailsToRead : {Y : Type 0} → ReadError → Option Y → Type 0
+FailsToRead errors.Memory read = Unit {0}
+FailsToRead errors.Invalid read = read ≡ None
 
 -- what a function returned, seen by view, is what reading gives, unless memory ran out
-abbrev pub Gives : {X Y : Type 0} → (X → Y) → Result X ReadError → Option Y → Type 0
-Gives view (Ok x) read = read ≡ Some (view x)
-Gives view (Err e) read = Fails e read
+abbrev pub ReadsAs : {X Y : Type 0} → (X → Y) → Result X ReadError → Option Y → Type 0
+ReadsAs view (Ok x) read = read ≡ Some (view x)
+ReadsAs view (Err e) read = FailsToRead e read
 
 -- a byte
 abbrev pub byte_at : List ℕ → Option (ℕ × List ℕ)

@@ -1,5 +1,5 @@
 // The statements of a script, as text with its place.
-ghost use Rattle.std.specs.Prelude.{◌≡◌, ◌+◌, ◌<◌, ◌^◌, length, IfOk};
+ghost use Rattle.std.specs.Prelude.{◌≡◌, ◌+◌, ◌<◌, ◌^◌, length};
 
 use crate::{Items, OutOfMemory, Text, TryCopy};
 use std::marker::Model;

@@ -1,5 +1,4 @@
 // What a table is defined by: its name, its columns and which of them are its key.
-ghost use Rattle.std.specs.Prelude.{◌≡◌, IfOk};
 
 use crate::{Items, Name, OutOfMemory, TryCopy};
 

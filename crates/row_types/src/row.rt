@@ -1,5 +1,5 @@
 // Values and rows.
-ghost use Rattle.std.specs.Prelude.{◌≡◌, IfOk};
+ghost use Rattle.std.specs.Prelude.{◌≡◌};
 ghost use Rattle.row_types.specs.Keys.{int_at};
 
 use crate::{Items, OutOfMemory, Text, TryCopy};

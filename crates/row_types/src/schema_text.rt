@@ -3,7 +3,7 @@ ghost use Rattle.std.specs.Prelude.{◌≡◌, ◌⊎◌, ◌+◌, ◌≤◌, �
 ghost use Rattle.std.specs.List.{flat_map};
 ghost use Rattle.row_types.specs.Schema.{IsSchema, IsTable, refusal};
 ghost use Rattle.row_types.specs.SchemaText.{name_text, kind_text, column_text, table_text, schema_text, Puts};
-ghost use Rattle.row_types.specs.SchemaReading.{Gives, byte_at, is_name, name_at, limit_at, kind_at, column_at, columns_from, table_at, schema_at};
+ghost use Rattle.row_types.specs.SchemaReading.{ReadsAs, byte_at, is_name, name_at, limit_at, kind_at, column_at, columns_from, table_at, schema_at};
 ghost use Rattle.row_types.specs.declared.definition.TableDef.{TableDef};
 ghost use Rattle.row_types.specs.declared.schema_text.ReadError.TheVariants.{Memory, Invalid};
 
@@ -86,7 +86,7 @@ impl<T: Drop> From<AllocFailed<T>> for ReadError {
 }
 
 fn byte_at(bytes: &[u8]) -> Result<(u8, &[u8]), ReadError>
-    ensures { Gives (λ x. (x.0, x.1.now)) result (byte_at bytes.now) }
+    ensures { ReadsAs (λ x. (x.0, x.1.now)) result (byte_at bytes.now) }
 {
     match bytes {
         [] => Err(ReadError::Invalid),
@@ -106,7 +106,7 @@ fn name_of(alloc: Global, bytes: &[u8]) -> Result<Option<Name>, OutOfMemory>
 
 #[tactic(auto, unfolding(crate::specs::SchemaReading::name_at))]
 fn name_at(alloc: Global, bytes: &[u8]) -> Result<(Name, &[u8]), ReadError>
-    ensures { Gives (λ x. (x.0, x.1.now)) result (name_at bytes.now) }
+    ensures { ReadsAs (λ x. (x.0, x.1.now)) result (name_at bytes.now) }
 {
     let (len, rest) = byte_at(bytes)?;
     let len = len as usize;
@@ -121,7 +121,7 @@ fn name_at(alloc: Global, bytes: &[u8]) -> Result<(Name, &[u8]), ReadError>
 }
 
 fn limit_at(bytes: &[u8]) -> Result<(Kind, &[u8]), ReadError>
-    ensures { Gives (λ x. (x.0, x.1.now)) result (limit_at bytes.now) }
+    ensures { ReadsAs (λ x. (x.0, x.1.now)) result (limit_at bytes.now) }
 {
     if bytes.len() < 2 {
         return Err(ReadError::Invalid);
@@ -132,7 +132,7 @@ fn limit_at(bytes: &[u8]) -> Result<(Kind, &[u8]), ReadError>
 
 #[tactic(auto, unfolding(crate::specs::SchemaReading::kind_at))]
 fn kind_at(bytes: &[u8]) -> Result<(Kind, &[u8]), ReadError>
-    ensures { Gives (λ x. (x.0, x.1.now)) result (kind_at bytes.now) }
+    ensures { ReadsAs (λ x. (x.0, x.1.now)) result (kind_at bytes.now) }
 {
     let (kind, rest) = byte_at(bytes)?;
     match kind {
@@ -144,7 +144,7 @@ fn kind_at(bytes: &[u8]) -> Result<(Kind, &[u8]), ReadError>
 
 #[tactic(auto, unfolding(crate::specs::SchemaReading::column_at))]
 fn column_at(alloc: Global, bytes: &[u8]) -> Result<(Column, &[u8]), ReadError>
-    ensures { Gives (λ x. (x.0, x.1.now)) result (column_at bytes.now) }
+    ensures { ReadsAs (λ x. (x.0, x.1.now)) result (column_at bytes.now) }
 {
     let (name, rest) = name_at(alloc, bytes)?;
     let (kind, rest) = kind_at(rest)?;
@@ -152,7 +152,7 @@ fn column_at(alloc: Global, bytes: &[u8]) -> Result<(Column, &[u8]), ReadError>
 }
 
 fn columns_from(alloc: Global, count: u8, bytes: &[u8]) -> Result<(Items<Column>, &[u8]), ReadError>
-    ensures { Gives (λ x. (x.0, x.1.now)) result (columns_from count bytes.now) }
+    ensures { ReadsAs (λ x. (x.0, x.1.now)) result (columns_from count bytes.now) }
 {
     let mut columns = Items::new(alloc);
     let mut rest = bytes;
@@ -166,7 +166,7 @@ fn columns_from(alloc: Global, count: u8, bytes: &[u8]) -> Result<(Items<Column>
 
 #[tactic(auto, unfolding(crate::specs::SchemaReading::table_at))]
 fn table_at(alloc: Global, bytes: &[u8]) -> Result<(TableDef, &[u8]), ReadError>
-    ensures { Gives (λ x. (x.0, x.1.now)) result (table_at bytes.now) }
+    ensures { ReadsAs (λ x. (x.0, x.1.now)) result (table_at bytes.now) }
 {
     let (name, rest) = name_at(alloc, bytes)?;
     let (count, rest) = byte_at(rest)?;
@@ -196,7 +196,7 @@ fn add_next(schema: &mut Schema, table: TableDef) -> Result<(), ReadError>
 
 #[tactic(auto, unfolding(crate::specs::SchemaReading::schema_at))]
 fn schema_of(alloc: Global, bytes: &[u8]) -> Result<Schema, ReadError>
-    ensures { Gives (λ schema. schema) result (schema_at bytes.now) }
+    ensures { ReadsAs (λ schema. schema) result (schema_at bytes.now) }
 {
     let (count, mut rest) = byte_at(bytes)?;
     let mut schema = Schema::empty(alloc);

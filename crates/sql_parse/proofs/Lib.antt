@@ -4,7 +4,7 @@ pub mod Exact
 pub mod ExactRules
 pub mod ExactTokens
 pub mod ExactValues
-pub mod Giving
+pub mod Parsed
 pub mod KeyMarks
 pub mod Loops
 pub mod Quotes

@@ -9,7 +9,7 @@ use Rattle.sql_lex.specs.declared.scanning.ScanEnd.TheVariants.{Whole, NoToken}
 use Rattle.sql_parse.specs.Phrases.{Phrase}
 use Rattle.sql_parse.specs.Reading.{Left, Read, ◌>>=◌, ended, whole_by, value_alone, whole_of, end_of}
 use Rattle.sql_parse.specs.Faults.{lexemes, IsText, BeginsPhrase, StopsAtToken, StopsAtMinus, IsFault, IfSyntax}
-use Rattle.sql_parse.specs.Giving.{FailsAs}
+use Rattle.sql_parse.specs.Parsed.{FailsAs}
 use Rattle.sql_parse.specs.declared.fault.ParseFault.{ParseFault}
 use Rattle.sql_parse.specs.declared.fault.ParseFault.TheVariants.{Syntax, OutOfMemory}
 use Rattle.sql_parse.proofs.Exact.{left, Fails, Alike, SameHead, Exact, Reads, Stuck, TooGreat, Faulty, ok_pair, ok_no_err, err_no_ok, same_err}

@@ -1,5 +1,5 @@
 pub mod Faults
-pub mod Giving
+pub mod Parsed
 pub mod Grammar
 pub mod Phrases
 pub mod Quotes

@@ -1,6 +1,6 @@
 // The readers of INSERT, UPDATE and DELETE.
 ghost use Rattle.std.specs.Prelude.{◌≡◌, option_and_then, is_some, if◌then◌else◌};
-ghost use Rattle.sql_parse.specs.Giving.{Gives};
+ghost use Rattle.sql_parse.specs.Parsed.{ParsesAs};
 ghost use Rattle.sql_parse.specs.Grammar.{step_sign};
 ghost use Rattle.sql_parse.specs.Reading.{next_of, rest_of, insert_at, term_at, steps_at, change_at, listed_at, update_at, delete_at};
 
@@ -15,7 +15,7 @@ impl<'a> Parser<'a> {
     // insert = INSERT INTO name VALUES row { , row }
     #[tactic(auto, unfolding(crate::specs::Reading::insert_at))]
     pub(crate) fn insert(&mut self, alloc: Global) -> Result<Statement, ParseFault>
-        ensures { Gives (λ statement. (statement, self.new)) result (insert_at self.old) }
+        ensures { ParsesAs (λ statement. (statement, self.new)) result (insert_at self.old) }
     {
         self.word(Keyword::Insert)?;
         self.word(Keyword::Into)?;
@@ -28,7 +28,7 @@ impl<'a> Parser<'a> {
     // term = [ - ] number | text | name
     #[tactic(auto, unfolding(crate::specs::Reading::term_at))]
     fn term(&mut self, alloc: Global) -> Result<Term, ParseFault>
-        ensures { Gives (λ term. (term, self.new)) result (term_at self.old) }
+        ensures { ParsesAs (λ term. (term, self.new)) result (term_at self.old) }
     {
         if let Some(TokenKind::Name(_)) = self.kind() {
             Ok(Term::Column(self.name(alloc)?))
@@ -53,7 +53,7 @@ impl<'a> Parser<'a> {
 
     // { ( + | - ) term }
     fn steps(&mut self, alloc: Global) -> Result<Items<Step>, ParseFault>
-        ensures { Gives (λ steps. (steps, self.new)) result (steps_at self.old) }
+        ensures { ParsesAs (λ steps. (steps, self.new)) result (steps_at self.old) }
     {
         let mut steps = Items::new(alloc);
         'steps: while let Some(is_minus) = self.accepts_step() {
@@ -66,7 +66,7 @@ impl<'a> Parser<'a> {
     // set = name = expr, and expr = term { ( + | - ) term }
     #[tactic(auto, unfolding(crate::specs::Reading::change_at))]
     fn change(&mut self, alloc: Global) -> Result<Change, ParseFault>
-        ensures { Gives (λ change. (change, self.new)) result (change_at self.old) }
+        ensures { ParsesAs (λ change. (change, self.new)) result (change_at self.old) }
     {
         let column = self.name(alloc)?;
         self.sign(Sign::Equal)?;
@@ -81,7 +81,7 @@ impl<'a> Parser<'a> {
 
     // set { , set }
     fn changes(&mut self, alloc: Global) -> Result<Items<Change>, ParseFault>
-        ensures { Gives (λ changes. (changes, self.new)) result (listed_at change_at self.old) }
+        ensures { ParsesAs (λ changes. (changes, self.new)) result (listed_at change_at self.old) }
     {
         let mut changes = Items::new(alloc);
         changes.push(self.change(alloc)?)?;
@@ -94,7 +94,7 @@ impl<'a> Parser<'a> {
     // update = UPDATE name SET set { , set } [ where ]
     #[tactic(auto, unfolding(crate::specs::Reading::update_at))]
     pub(crate) fn update(&mut self, alloc: Global) -> Result<Statement, ParseFault>
-        ensures { Gives (λ statement. (statement, self.new)) result (update_at self.old) }
+        ensures { ParsesAs (λ statement. (statement, self.new)) result (update_at self.old) }
     {
         self.word(Keyword::Update)?;
         let table = self.name(alloc)?;
@@ -111,7 +111,7 @@ impl<'a> Parser<'a> {
     // delete = DELETE FROM name [ where ]
     #[tactic(auto, unfolding(crate::specs::Reading::delete_at))]
     pub(crate) fn delete(&mut self, alloc: Global) -> Result<Statement, ParseFault>
-        ensures { Gives (λ statement. (statement, self.new)) result (delete_at self.old) }
+        ensures { ParsesAs (λ statement. (statement, self.new)) result (delete_at self.old) }
     {
         self.word(Keyword::Delete)?;
         self.word(Keyword::From)?;

@@ -1,7 +1,7 @@
 // The readers of conditions.
 ghost use Rattle.std.specs.Prelude.{◌≡◌};
 ghost use Rattle.sql_lex.specs.declared.keyword.Keyword.TheVariants.{And};
-ghost use Rattle.sql_parse.specs.Giving.{Gives};
+ghost use Rattle.sql_parse.specs.Parsed.{ParsesAs};
 ghost use Rattle.sql_parse.specs.Grammar.{comparison_of, word};
 ghost use Rattle.sql_parse.specs.Reading.{one_at, separated_at, condition_at, where_at};
 
@@ -14,7 +14,7 @@ use std::alloc::Global;
 
 impl<'a> Parser<'a> {
     fn comparison(&mut self) -> Result<Comparison, ParseFault>
-        ensures { Gives (λ comparison. (comparison, self.new)) result (one_at comparison_of self.old) }
+        ensures { ParsesAs (λ comparison. (comparison, self.new)) result (one_at comparison_of self.old) }
     {
         let comparison = match self.kind() {
             Some(TokenKind::Sign(Sign::Equal)) => Comparison::Equal,
@@ -32,7 +32,7 @@ impl<'a> Parser<'a> {
     // cond = name op value
     #[tactic(auto, unfolding(crate::specs::Reading::condition_at))]
     fn condition(&mut self, alloc: Global) -> Result<Condition, ParseFault>
-        ensures { Gives (λ condition. (condition, self.new)) result (condition_at self.old) }
+        ensures { ParsesAs (λ condition. (condition, self.new)) result (condition_at self.old) }
     {
         let column = self.name(alloc)?;
         let comparison = self.comparison()?;
@@ -46,7 +46,7 @@ impl<'a> Parser<'a> {
 
     // cond { AND cond }
     fn all_conditions(&mut self, alloc: Global) -> Result<Items<Condition>, ParseFault>
-        ensures { Gives (λ conditions. (conditions, self.new)) result (separated_at (word And) condition_at self.old) }
+        ensures { ParsesAs (λ conditions. (conditions, self.new)) result (separated_at (word And) condition_at self.old) }
     {
         let mut conditions = Items::new(alloc);
         conditions.push(self.condition(alloc)?)?;
@@ -59,7 +59,7 @@ impl<'a> Parser<'a> {
     // where = WHERE cond { AND cond }, or nothing
     #[tactic(auto, unfolding(crate::specs::Reading::where_at))]
     pub(crate) fn conditions(&mut self, alloc: Global) -> Result<Items<Condition>, ParseFault>
-        ensures { Gives (λ conditions. (conditions, self.new)) result (where_at self.old) }
+        ensures { ParsesAs (λ conditions. (conditions, self.new)) result (where_at self.old) }
     {
         if self.accepts_word(Keyword::Where) {
             self.all_conditions(alloc)

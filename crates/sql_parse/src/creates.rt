@@ -1,6 +1,6 @@
 // The readers of CREATE.
 ghost use Rattle.std.specs.Prelude.{◌≡◌, IfOk};
-ghost use Rattle.sql_parse.specs.Giving.{Gives};
+ghost use Rattle.sql_parse.specs.Parsed.{ParsesAs};
 ghost use Rattle.sql_parse.specs.Grammar.{text_kind, text_word, int_word, columns_of, marks_of};
 ghost use Rattle.sql_parse.specs.Reading.{one_at, type_at, marked_at, column_at, listed_at, create_at};
 
@@ -14,7 +14,7 @@ use std::alloc::Global;
 
 impl<'a> Parser<'a> {
     fn text_len(&mut self) -> Result<Kind, ParseFault>
-        ensures { Gives (λ kind. (kind, self.new)) result (one_at text_kind self.old) }
+        ensures { ParsesAs (λ kind. (kind, self.new)) result (one_at text_kind self.old) }
     {
         match self.kind() {
             Some(TokenKind::Number(n)) if n >= 1 && n <= 4093 => {
@@ -28,7 +28,7 @@ impl<'a> Parser<'a> {
     // type = INT | INTEGER | BIGINT | ( TEXT | VARCHAR ) ( number )
     #[tactic(auto, unfolding(crate::specs::Reading::type_at))]
     fn column_type(&mut self) -> Result<Kind, ParseFault>
-        ensures { Gives (λ kind. (kind, self.new)) result (type_at self.old) }
+        ensures { ParsesAs (λ kind. (kind, self.new)) result (type_at self.old) }
     {
         match self.kind() {
             Some(TokenKind::Word(Keyword::Int | Keyword::Integer | Keyword::Bigint)) => {
@@ -49,7 +49,7 @@ impl<'a> Parser<'a> {
     // [ PRIMARY KEY ]: whether it stands
     #[tactic(auto, unfolding(crate::specs::Reading::marked_at))]
     fn marked(&mut self) -> Result<bool, ParseFault>
-        ensures { Gives (λ is_marked. (is_marked, self.new)) result (marked_at self.old) }
+        ensures { ParsesAs (λ is_marked. (is_marked, self.new)) result (marked_at self.old) }
     {
         if !self.accepts_word(Keyword::Primary) {
             return Ok(false);
@@ -61,7 +61,7 @@ impl<'a> Parser<'a> {
     // column = name type [ PRIMARY KEY ]
     #[tactic(auto, unfolding(crate::specs::Reading::column_at))]
     fn column(&mut self, alloc: Global) -> Result<(Column, bool), ParseFault>
-        ensures { Gives (λ column. (column, self.new)) result (column_at self.old) }
+        ensures { ParsesAs (λ column. (column, self.new)) result (column_at self.old) }
     {
         let name = self.name(alloc)?;
         let kind = self.column_type()?;
@@ -71,7 +71,7 @@ impl<'a> Parser<'a> {
 
     // column { , column }
     fn columns(&mut self, alloc: Global) -> Result<Items<(Column, bool)>, ParseFault>
-        ensures { Gives (λ columns. (columns, self.new)) result (listed_at column_at self.old) }
+        ensures { ParsesAs (λ columns. (columns, self.new)) result (listed_at column_at self.old) }
     {
         let mut columns = Items::new(alloc);
         columns.push(self.column(alloc)?)?;
@@ -84,7 +84,7 @@ impl<'a> Parser<'a> {
     // create = CREATE TABLE name ( column { , column } )
     #[tactic(auto, unfolding(crate::specs::Reading::create_at))]
     pub(crate) fn create(&mut self, alloc: Global) -> Result<Statement, ParseFault>
-        ensures { Gives (λ statement. (statement, self.new)) result (create_at self.old) }
+        ensures { ParsesAs (λ statement. (statement, self.new)) result (create_at self.old) }
     {
         self.word(Keyword::Create)?;
         self.word(Keyword::Table)?;

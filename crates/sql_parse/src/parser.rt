@@ -1,7 +1,7 @@
 // The tokens that are left to read, and the readers of one token.
 ghost use Rattle.std.specs.Prelude.{◌≡◌, ◌==◌, option_map, option_and_then, is_some, if◌then◌else◌};
 ghost use Rattle.sql_lex.specs.Seen.{lexeme_of, items_of};
-ghost use Rattle.sql_parse.specs.Giving.{Gives};
+ghost use Rattle.sql_parse.specs.Parsed.{ParsesAs};
 ghost use Rattle.sql_parse.specs.Words.{is_word, is_sign, word_number, sign_number};
 ghost use Rattle.sql_parse.specs.Grammar.{word, sign};
 ghost use Rattle.sql_parse.specs.Reading.{next_of, place_of, rest_of, word_at, sign_at, name_at};
@@ -112,7 +112,7 @@ impl<'a> Parser<'a> {
     }
 
     pub(crate) fn word(&mut self, keyword: Keyword) -> Result<(), ParseFault>
-        ensures { Gives (λ x. (x, self.new)) result (word_at keyword self.old) }
+        ensures { ParsesAs (λ x. (x, self.new)) result (word_at keyword self.old) }
     {
         if self.accepts_word(keyword) {
             Ok(())
@@ -122,7 +122,7 @@ impl<'a> Parser<'a> {
     }
 
     pub(crate) fn sign(&mut self, mark: Sign) -> Result<(), ParseFault>
-        ensures { Gives (λ x. (x, self.new)) result (sign_at mark self.old) }
+        ensures { ParsesAs (λ x. (x, self.new)) result (sign_at mark self.old) }
     {
         if self.accepts_sign(mark) {
             Ok(())
@@ -132,7 +132,7 @@ impl<'a> Parser<'a> {
     }
 
     pub(crate) fn name(&mut self, alloc: Global) -> Result<Name, ParseFault>
-        ensures { Gives (λ name. (name, self.new)) result (name_at self.old) }
+        ensures { ParsesAs (λ name. (name, self.new)) result (name_at self.old) }
     {
         let Some(TokenKind::Name(text)) = self.kind() else {
             return Err(self.fault());

@@ -1,7 +1,7 @@
 // The statement that a text is.
 ghost use Rattle.std.specs.Prelude.{◌≡◌, ℕ, ◌+◌, ◌<◌, ◌^◌, length, IfOk, IfErr};
 ghost use Rattle.sql_lex.specs.Seen.{items_of};
-ghost use Rattle.sql_parse.specs.Giving.{Gives};
+ghost use Rattle.sql_parse.specs.Parsed.{ParsesAs};
 ghost use Rattle.sql_parse.specs.Faults.{IsText, IsFault, IfSyntax};
 ghost use Rattle.sql_parse.specs.Grammar.{IsStatement};
 ghost use Rattle.sql_parse.specs.Reading.{statement_at, whole_by, whole_of, end_of};
@@ -16,7 +16,7 @@ impl<'a> Parser<'a> {
     // statement = create | insert | select | update | delete | BEGIN | COMMIT | ROLLBACK
     #[tactic(auto, unfolding(crate::specs::Reading::statement_at))]
     fn statement(&mut self, alloc: Global) -> Result<Statement, ParseFault>
-        ensures { Gives (λ statement. (statement, self.new)) result (statement_at self.old) }
+        ensures { ParsesAs (λ statement. (statement, self.new)) result (statement_at self.old) }
     {
         let statement = match self.kind() {
             Some(TokenKind::Word(Keyword::Create)) => return self.create(alloc),
@@ -35,7 +35,7 @@ impl<'a> Parser<'a> {
 
     // A statement, behind which nothing stands.
     fn whole(&mut self, alloc: Global) -> Result<Statement, ParseFault>
-        ensures { Gives (λ statement. (statement, self.new)) result (whole_by statement_at self.old) }
+        ensures { ParsesAs (λ statement. (statement, self.new)) result (whole_by statement_at self.old) }
     {
         let statement = self.statement(alloc)?;
         match self.kind() {
@@ -57,7 +57,7 @@ fn end_of(end: ScanEnd, whole: u64) -> u64
 
 // The statement that the tokens are, which end at `end`.
 fn statement_of(alloc: Global, tokens: &[Token], end: u64) -> Result<Statement, ParseFault>
-    ensures { Gives (λ statement. statement) result (whole_of statement_at end (items_of tokens.now)) }
+    ensures { ParsesAs (λ statement. statement) result (whole_of statement_at end (items_of tokens.now)) }
 {
     Parser::new(tokens, end).whole(alloc)
 }

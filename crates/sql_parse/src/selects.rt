@@ -1,6 +1,6 @@
 // The readers of SELECT.
 ghost use Rattle.std.specs.Prelude.{◌≡◌};
-ghost use Rattle.sql_parse.specs.Giving.{Gives};
+ghost use Rattle.sql_parse.specs.Parsed.{ParsesAs};
 ghost use Rattle.sql_parse.specs.Grammar.{limit_of, total_word};
 ghost use Rattle.sql_parse.specs.Reading.{one_at, name_at, listed_at, shown_at, direction_at, order_at, limit_at, plain_at, total_at, totals_at, select_at};
 
@@ -14,7 +14,7 @@ use std::alloc::Global;
 impl<'a> Parser<'a> {
     // name { , name }
     fn names(&mut self, alloc: Global) -> Result<Items<Name>, ParseFault>
-        ensures { Gives (λ names. (names, self.new)) result (listed_at name_at self.old) }
+        ensures { ParsesAs (λ names. (names, self.new)) result (listed_at name_at self.old) }
     {
         let mut names = Items::new(alloc);
         names.push(self.name(alloc)?)?;
@@ -27,7 +27,7 @@ impl<'a> Parser<'a> {
     // plain = * | name { , name }
     #[tactic(auto, unfolding(crate::specs::Reading::shown_at))]
     fn shown(&mut self, alloc: Global) -> Result<Shown, ParseFault>
-        ensures { Gives (λ shown. (shown, self.new)) result (shown_at self.old) }
+        ensures { ParsesAs (λ shown. (shown, self.new)) result (shown_at self.old) }
     {
         if self.accepts_sign(Sign::Star) {
             Ok(Shown::All)
@@ -39,7 +39,7 @@ impl<'a> Parser<'a> {
     // [ ASC | DESC ]: whether it falls
     #[tactic(auto, unfolding(crate::specs::Reading::direction_at))]
     fn direction(&mut self) -> Result<bool, ParseFault>
-        ensures { Gives (λ is_falling. (is_falling, self.new)) result (direction_at self.old) }
+        ensures { ParsesAs (λ is_falling. (is_falling, self.new)) result (direction_at self.old) }
     {
         if self.accepts_word(Keyword::Asc) {
             return Ok(false);
@@ -50,7 +50,7 @@ impl<'a> Parser<'a> {
     // [ ORDER BY name [ ASC | DESC ] ]
     #[tactic(auto, unfolding(crate::specs::Reading::order_at))]
     fn order(&mut self, alloc: Global) -> Result<Option<Order>, ParseFault>
-        ensures { Gives (λ order. (order, self.new)) result (order_at self.old) }
+        ensures { ParsesAs (λ order. (order, self.new)) result (order_at self.old) }
     {
         if !self.accepts_word(Keyword::Order) {
             return Ok(None);
@@ -62,7 +62,7 @@ impl<'a> Parser<'a> {
     }
 
     fn limit_number(&mut self) -> Result<Option<u64>, ParseFault>
-        ensures { Gives (λ limit. (limit, self.new)) result (one_at limit_of self.old) }
+        ensures { ParsesAs (λ limit. (limit, self.new)) result (one_at limit_of self.old) }
     {
         match self.kind() {
             Some(TokenKind::Number(n)) if n < 1 << 63 => {
@@ -76,7 +76,7 @@ impl<'a> Parser<'a> {
     // [ LIMIT number ]
     #[tactic(auto, unfolding(crate::specs::Reading::limit_at))]
     fn limit(&mut self) -> Result<Option<u64>, ParseFault>
-        ensures { Gives (λ limit. (limit, self.new)) result (limit_at self.old) }
+        ensures { ParsesAs (λ limit. (limit, self.new)) result (limit_at self.old) }
     {
         if self.accepts_word(Keyword::Limit) {
             self.limit_number()
@@ -88,7 +88,7 @@ impl<'a> Parser<'a> {
     // plain FROM name [ where ] [ ORDER BY name [ ASC | DESC ] ] [ LIMIT number ]
     #[tactic(auto, unfolding(crate::specs::Reading::plain_at))]
     fn plain(&mut self, alloc: Global) -> Result<Statement, ParseFault>
-        ensures { Gives (λ statement. (statement, self.new)) result (plain_at self.old) }
+        ensures { ParsesAs (λ statement. (statement, self.new)) result (plain_at self.old) }
     {
         let shown = self.shown(alloc)?;
         self.word(Keyword::From)?;
@@ -108,7 +108,7 @@ impl<'a> Parser<'a> {
     // total = COUNT ( * ) | SUM ( name )
     #[tactic(auto, unfolding(crate::specs::Reading::total_at))]
     fn total(&mut self, alloc: Global) -> Result<Total, ParseFault>
-        ensures { Gives (λ total. (total, self.new)) result (total_at self.old) }
+        ensures { ParsesAs (λ total. (total, self.new)) result (total_at self.old) }
     {
         if self.accepts_word(Keyword::Count) {
             self.sign(Sign::Open)?;
@@ -125,7 +125,7 @@ impl<'a> Parser<'a> {
 
     // total { , total }
     fn all_totals(&mut self, alloc: Global) -> Result<Items<Total>, ParseFault>
-        ensures { Gives (λ totals. (totals, self.new)) result (listed_at total_at self.old) }
+        ensures { ParsesAs (λ totals. (totals, self.new)) result (listed_at total_at self.old) }
     {
         let mut totals = Items::new(alloc);
         totals.push(self.total(alloc)?)?;
@@ -138,7 +138,7 @@ impl<'a> Parser<'a> {
     // total { , total } FROM name [ where ]
     #[tactic(auto, unfolding(crate::specs::Reading::totals_at))]
     fn totals(&mut self, alloc: Global) -> Result<Statement, ParseFault>
-        ensures { Gives (λ statement. (statement, self.new)) result (totals_at self.old) }
+        ensures { ParsesAs (λ statement. (statement, self.new)) result (totals_at self.old) }
     {
         let totals = self.all_totals(alloc)?;
         self.word(Keyword::From)?;
@@ -154,7 +154,7 @@ impl<'a> Parser<'a> {
     // select = SELECT and then plain columns or totals
     #[tactic(auto, unfolding(crate::specs::Reading::select_at))]
     pub(crate) fn select(&mut self, alloc: Global) -> Result<Statement, ParseFault>
-        ensures { Gives (λ statement. (statement, self.new)) result (select_at self.old) }
+        ensures { ParsesAs (λ statement. (statement, self.new)) result (select_at self.old) }
     {
         self.word(Keyword::Select)?;
         match self.kind() {

@@ -1,6 +1,6 @@
 // The readers of values and rows.
 ghost use Rattle.std.specs.Prelude.{◌≡◌, ◌≤◌, ◌^◌, pos, neg_ℤ};
-ghost use Rattle.sql_parse.specs.Giving.{Gives};
+ghost use Rattle.sql_parse.specs.Parsed.{ParsesAs};
 ghost use Rattle.sql_parse.specs.Reading.{value_at, negative_at, listed_at, row_at};
 
 use crate::fault::ParseFault;
@@ -15,7 +15,7 @@ const LOWEST: u64 = 1 << 63;
 impl<'a> Parser<'a> {
     // The number behind a minus, which stands at `place`.
     fn negative(&mut self, place: u64) -> Result<Value, ParseFault>
-        ensures { Gives (λ value. (value, self.new)) result (negative_at place self.old) }
+        ensures { ParsesAs (λ value. (value, self.new)) result (negative_at place self.old) }
     {
         match self.kind() {
             Some(TokenKind::Number(n)) if n <= LOWEST => {
@@ -29,7 +29,7 @@ impl<'a> Parser<'a> {
 
     // value = [ - ] number | text
     pub(crate) fn value(&mut self, alloc: Global) -> Result<Value, ParseFault>
-        ensures { Gives (λ value. (value, self.new)) result (value_at self.old) }
+        ensures { ParsesAs (λ value. (value, self.new)) result (value_at self.old) }
     {
         match self.kind() {
             Some(TokenKind::Sign(Sign::Minus)) => {
@@ -52,7 +52,7 @@ impl<'a> Parser<'a> {
 
     // value { , value }
     fn values(&mut self, alloc: Global) -> Result<Row, ParseFault>
-        ensures { Gives (λ values. (values, self.new)) result (listed_at value_at self.old) }
+        ensures { ParsesAs (λ values. (values, self.new)) result (listed_at value_at self.old) }
     {
         let mut values = Row::new(alloc);
         values.push(self.value(alloc)?)?;
@@ -65,7 +65,7 @@ impl<'a> Parser<'a> {
     // row = ( value { , value } )
     #[tactic(auto, unfolding(crate::specs::Reading::row_at))]
     fn row(&mut self, alloc: Global) -> Result<Row, ParseFault>
-        ensures { Gives (λ row. (row, self.new)) result (row_at self.old) }
+        ensures { ParsesAs (λ row. (row, self.new)) result (row_at self.old) }
     {
         self.sign(Sign::Open)?;
         let values = self.values(alloc)?;
@@ -75,7 +75,7 @@ impl<'a> Parser<'a> {
 
     // row { , row }
     pub(crate) fn rows(&mut self, alloc: Global) -> Result<Items<Row>, ParseFault>
-        ensures { Gives (λ rows. (rows, self.new)) result (listed_at row_at self.old) }
+        ensures { ParsesAs (λ rows. (rows, self.new)) result (listed_at row_at self.old) }
     {
         let mut rows = Items::new(alloc);
         rows.push(self.row(alloc)?)?;

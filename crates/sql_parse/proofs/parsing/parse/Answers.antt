@@ -3,7 +3,7 @@ use Rattle.std.proofs.lemmas.Result.{err_from_is_err_and}
 use Rattle.sql_lex.specs.Seen.{items_of}
 use Rattle.sql_lex.specs.Tokens.{Item}
 use Rattle.sql_parse.specs.declared.fault.ParseFault.{ParseFault}
-use Rattle.sql_parse.specs.Giving.{FailsAs}
+use Rattle.sql_parse.specs.Parsed.{FailsAs}
 use Rattle.sql_parse.specs.Grammar.{IsStatement}
 use Rattle.sql_parse.specs.Reading.{statement_at, whole_of}
 use Rattle.sql_parse.proofs.ExactRules.{statement_exact}

@@ -9,6 +9,6 @@ FailsAs (Syntax at) read = read ≡ Err at
 FailsAs OutOfMemory read = Unit {0}
 
 -- what was returned, seen by view, is what the reading gives, unless memory ran out
-abbrev pub Gives : {X Y : Type 0} → (X → Y) → Result X ParseFault → Result Y ℕ → Type 0
-Gives view (Ok x) read = read ≡ Ok (view x)
-Gives view (Err fault) read = FailsAs fault read
+abbrev pub ParsesAs : {X Y : Type 0} → (X → Y) → Result X ParseFault → Result Y ℕ → Type 0
+ParsesAs view (Ok x) read = read ≡ Ok (view x)
+ParsesAs view (Err fault) read = FailsAs fault read
