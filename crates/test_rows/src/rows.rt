@@ -169,6 +169,55 @@ fn each_fault_of_a_slot_has_its_place(rt: HostRuntime) -> Result<(), Fail> {
     Ok(())
 }
 
+/// A table with a text that has words of padding behind it.
+fn wide(alloc: Global) -> Result<Schema, Fail> {
+    let mut schema = Schema::empty(alloc);
+    schema.add(table(alloc, "CREATE TABLE kv (id INT PRIMARY KEY, t TEXT(40))")?)?;
+    Ok(schema)
+}
+
+#[test]
+fn each_byte_of_a_padding_is_looked_at(rt: HostRuntime) -> Result<(), Fail> {
+    let schema = wide(rt.alloc())?;
+    assert_eq!(rt; schema.tables().len(), 1);
+    assert_eq!(rt; schema.slot_len(0), 51);
+    let row = pair(rt.alloc(), 7, "abc")?;
+    assert!(rt; schema.fits(0, &row));
+    let mut whole = [9u8; 51];
+    schema.encode(0, &row, &mut whole);
+    assert_eq!(rt; schema.slot_fault(0, &whole), None);
+    for place in 14..51usize {
+        let mut slot = whole;
+        slot[place % 51] = 1;
+        assert_eq!(rt; schema.slot_fault(0, &slot), Some(place as u64));
+    }
+    Ok(())
+}
+
+#[test]
+fn tables_and_columns_are_found_by_their_names(rt: HostRuntime) -> Result<(), Fail> {
+    let mut schema = wide(rt.alloc())?;
+    schema.add(table(
+        rt.alloc(),
+        "CREATE TABLE KV (a INT, id INT PRIMARY KEY, T INT)",
+    )?)?;
+    assert_eq!(rt; schema.tables().len(), 2);
+    for (name, number) in [("kv", Some(0)), ("KV", Some(1)), ("Kv", None), ("", None)] {
+        assert_eq!(rt; schema.find_table(name), number, "{name}");
+    }
+    for (number, name, column) in [
+        (0, "id", Some(0)),
+        (0, "t", Some(1)),
+        (0, "T", None),
+        (1, "id", Some(1)),
+        (1, "T", Some(2)),
+        (1, "t", None),
+    ] {
+        assert_eq!(rt; schema.find_column(number, name), column, "{name}");
+    }
+    Ok(())
+}
+
 #[test]
 fn a_schema_is_written_and_read_to_the_byte(rt: HostRuntime) -> Result<(), Fail> {
     let schema = small(rt.alloc())?;
