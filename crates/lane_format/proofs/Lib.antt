@@ -1,5 +1,10 @@
 pub mod Crash
+pub mod Gates
 pub mod Lanes
 pub mod Left
+pub mod ReadTo
+pub mod Readings
+pub mod Stops
 pub mod Told
+pub mod Windows
 pub mod Writes

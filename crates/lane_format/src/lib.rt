@@ -1,9 +1,17 @@
-//! The log file of a lane: its text, and the writer that appends batches to it.
+//! The log file of a lane: its text, the writer that appends batches to it, and the reading of a whole file.
 #![tactic(auto)]
 
 mod frame;
+mod laws;
+mod read;
+mod segment;
 mod steps;
+mod stop;
+mod window;
 mod writer;
 
 pub use disk_core::{Disk, Failed, FileName};
+pub use laws::{one_reading, reads_what_was_written, some_reading};
+pub use read::read_segment;
+pub use segment::{Batch, LaneReadFault, Segment};
 pub use writer::{LaneFault, LaneWriter, Stage};
