@@ -1,5 +1,5 @@
 -- A lane that hasn't failed reports a fault only where its disk's count rose by one.
-use Rattle.std.proofs.Common.{◌≡◌, ◌≢◌, ℕ, Result, Ok, Err, IfErr, IsErrAnd, OnErr, refl, ◌∙◌, sym, ap, subst}
+use Rattle.std.proofs.Common.{◌≡◌, ◌≢◌, ℕ, Result, Ok, Err, IfErr, IsErrAnd, refl, ◌∙◌, sym, ap, subst}
 use Rattle.causes.specs.Causes.{one_more}
 use Rattle.disk_core.specs.declared.disk.Disk.{Ghosts}
 use Rattle.disk_core.specs.declared.store.FileName.{FileName}

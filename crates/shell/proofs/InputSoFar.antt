@@ -5,7 +5,7 @@ use Rattle.std.proofs.Math.Seq.{take-add}
 use Rattle.std.specs.Option.{option_map, ForSome}
 use Rattle.causes.specs.Causes.{one_more}
 use Rattle.io_edge.specs.Content.{Content, Gives, after_giving}
-use Rattle.io_edge.specs.Runs.{ReadsOn, ReadsToFault}
+use Rattle.io_edge.specs.Runs.{ReadsOn}
 use Rattle.io_edge.specs.declared.source.Source.{Ghosts}
 use Rattle.shell.specs.Input.{FailsWithin, HasEnded, IsInput, ReadsWithin, StopsWithin, WasRead, read_limit}
 use Rattle.shell.specs.declared.input.InputFault.{InputFault}

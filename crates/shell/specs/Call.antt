@@ -17,7 +17,7 @@ use Rattle.shell.specs.Survival.{IsQuiet, Survives}
 use Rattle.shell.specs.Text.{shown_text}
 use Rattle.shell.specs.declared.statement.KvStatement.{KvStatement}
 use Rattle.shell.specs.declared.end.CallEnd.{CallEnd}
-use Rattle.shell.specs.declared.end.CallEnd.TheVariants.{Done, Usage, OutOfMemory, Disk, Source, Script, Damaged}
+use Rattle.shell.specs.declared.end.CallEnd.TheVariants.{Usage, OutOfMemory, Source, Script}
 
 -- a word that names a folder isn't empty and doesn't begin with a minus
 abbrev pub NamesFolder : List ℕ → Type 0

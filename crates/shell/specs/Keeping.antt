@@ -1,5 +1,5 @@
 -- What a session keeps of the pairs, in memory and in its log file.
-use Rattle.std.specs.Prelude.{◌≡◌, ℕ, ℤ, List, length, map, Option}
+use Rattle.std.specs.Prelude.{◌≡◌, ℤ, length, map}
 use Rattle.std.specs.Ordering.{int_cmp}
 use Rattle.std.specs.BTreeMap.{BTreeMap, get, btree_map_len}
 use Rattle.disk_core.specs.declared.disk.Disk.{Ghosts}

@@ -17,7 +17,7 @@ use Rattle.shell.specs.declared.reply.Reply.TheVariants.{Stopped, StoppedMemory}
 use Rattle.shell.specs.declared.stop.Stop.{Stop}
 use Rattle.shell.specs.declared.stop.Stop.TheVariants as stop
 use Rattle.shell.specs.declared.end.CallEnd.{CallEnd}
-use Rattle.shell.specs.declared.end.CallEnd.TheVariants.{Done, Usage, OutOfMemory, Disk, Source, Script, Damaged}
+use Rattle.shell.specs.declared.end.CallEnd.TheVariants.{Done, OutOfMemory, Disk, Damaged}
 
 -- The run stopped at a statement: those before it have their replies, and from it on each has this word.
 pub record RunStops (pairs : Pairs) (script : Option (List KvStatement)) (word : Reply) (shown : Option (List Reply)) : Type 0 where

@@ -12,7 +12,7 @@ use Rattle.shell.specs.declared.statement.KvStatement.{KvStatement}
 use Rattle.shell.specs.declared.reply.Reply.{Reply}
 use Rattle.shell.specs.declared.reply.Reply.TheVariants.{Stopped, StoppedMemory}
 use Rattle.shell.specs.declared.end.CallEnd.{CallEnd}
-use Rattle.shell.specs.declared.end.CallEnd.TheVariants.{Done, Usage, OutOfMemory, Disk, Source, Script, Damaged}
+use Rattle.shell.specs.declared.end.CallEnd.TheVariants.{Done, OutOfMemory, Disk, Damaged}
 
 -- the log of these pairs, or of those that the statement leaves
 abbrev pub BeforeOrAfter : Pairs → KvStatement → List ℕ → Type 0

@@ -1,4 +1,4 @@
-use Rattle.std.proofs.Common.{rules, ◌≡◌, sym, ◌∙◌, ap, subst}
+use Rattle.std.proofs.Common.{rules, ◌≡◌, sym, subst}
 use Rattle.disk_core.specs.declared.store.Store.{Store}
 use Rattle.shell.specs.Call.{Answers}
 use Rattle.shell.specs.Files.{log_file, outside_of}

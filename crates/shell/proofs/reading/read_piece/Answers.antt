@@ -1,4 +1,4 @@
-use Rattle.std.proofs.Common.{◌≡◌, ℕ, ◌+◌, ◌-◌, ◌<◌, ◌≤◌, min, List, length, take, drop, IfSome, IfOk, Option, ◌*◌, refl, arith, subst}
+use Rattle.std.proofs.Common.{◌≡◌, ℕ, ◌+◌, ◌-◌, ◌<◌, ◌≤◌, min, List, length, take, drop, IfSome, IfOk, Option, refl, arith, subst}
 use Rattle.std.proofs.lemmas.List.{length-take}
 use Rattle.shell.specs.Keeping.{IsMapOf}
 use Rattle.shell.specs.Kv.{Pairs}

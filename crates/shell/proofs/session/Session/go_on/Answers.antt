@@ -1,4 +1,4 @@
-use Rattle.std.proofs.Common.{◌≡◌, ℕ, ◌+◌, ◌*◌, List, length, map, Option, refl, sym, ◌∙◌, ap, subst, arith}
+use Rattle.std.proofs.Common.{◌≡◌, ℕ, length, map, refl, sym, ◌∙◌, ap, subst}
 use Rattle.disk_core.specs.declared.disk.Disk.{Ghosts}
 use Rattle.lane_format.specs.Lane.{IsLane, lane_text}
 use Rattle.lane_format.specs.Writer.{Holds, disk_of, lane_of, stage_of}
