@@ -36,7 +36,8 @@ module _ {S : Type 0} (s : source.Ghosts S) where
   -- what is read of the source is no script
   abbrev pub GivesNoScript : S → Type 0
   GivesNoScript old =
-      ForSome (s.content old) (λ content. (script : Option (List KvStatement)) → ¬ (IsScript (take read_limit content.left) script))
+      ForSome (s.content old) (λ content. (script : Option (List KvStatement))
+      → ¬ (IsScript (take read_limit content.left) script))
 
   -- No script was read: the source failed, memory ran out, or what was read is the text of no script.
   abbrev pub NoScript : CallEnd → S → S → Type 0
@@ -51,15 +52,17 @@ pub record WrongWords {S D : Type 0} (words : List (List ℕ)) (old new : Outsid
   pub untouched : new ≡ old
   pub outcome : view ≡ shows_none Usage
 
--- The words ask for a run, but no script was read: nothing else was done.
-pub record Unread {S D : Type 0} (s : source.Ghosts S) (words : List (List ℕ)) (old new : Outside S D) (view : OutcomeView) : Type 0 where
-  pub asks : IsRun words
-  pub why : NoScript s view.end old.source new.source
-  pub untouched : new.disk ≡ old.disk
-  pub nothing : view.shown ≡ None
+module _ {S D : Type 0} (s : source.Ghosts S) where
+  -- The words ask for a run, but no script was read: nothing else was done.
+  pub record Unread (words : List (List ℕ)) (old new : Outside S D) (view : OutcomeView) : Type 0 where
+    pub asks : IsRun words
+    pub why : NoScript s view.end old.source new.source
+    pub untouched : new.disk ≡ old.disk
+    pub nothing : view.shown ≡ None
 
 module _ {S D : Type 0} (s : source.Ghosts S) (d : disk.Ghosts D) where
-  -- The words ask for a run, and the script that was read was run over the log file: how that ended, and what a crash leaves if nothing was pending at first.
+  -- The words ask for a run, and the script that was read was run over the log file: how that ended, and what
+  -- a crash leaves if nothing was pending at first.
   pub record ScriptRan (words : List (List ℕ)) (old new : Outside S D) (view : OutcomeView) : Type 0 where
     pub asks : IsRun words
     pub read : WasRead s old.source new.source
@@ -79,7 +82,8 @@ module _ {S K D : Type 0} (s : source.Ghosts S) (k : sink.Ghosts K) (d : disk.Gh
     pub why : Explains s d words old new view
     pub shows : Shows k view old_sink new_sink status
 
-  -- Status 0: the words ask for a run, all of a script was read, the sink took the replies of its statements over the pairs that the log file began with, in order, and the file reads as the pairs that they leave.
+  -- Status 0: the words ask for a run, all of a script was read, the sink took the replies of its statements
+  -- over the pairs that the log file began with, in order, and the file reads as the pairs that they leave.
   pub record AllDone (words : List (List ℕ)) (old new : Outside S D) (old_sink new_sink : K) : Type 0 where
     pub asks : IsRun words
     pub read : WasRead s old.source new.source
@@ -88,7 +92,8 @@ module _ {S K D : Type 0} (s : source.Ghosts S) (k : sink.Ghosts K) (d : disk.Gh
     pub pairs : Pairs
     pub opened : ForSome (d.content old.disk) (BeginsWith pairs)
     pub took : Took k (shown_text (option_map (replies_to pairs) script)) old_sink new_sink
-    pub kept : ForSome (d.content new.disk) (λ bytes. log_reads bytes (Holding (pairs_after_all pairs (statements_in script))))
+    pub kept : ForSome (d.content new.disk)
+        (λ bytes. log_reads bytes (Holding (pairs_after_all pairs (statements_in script))))
 
 -- Status 8: the log file is open but isn't a log, and it stays as it was.
 pub record StaysDamaged {D : Type 0} (d : disk.Ghosts D) (old new : D) : Type 0 where

@@ -16,7 +16,8 @@ pub record IsMapOf (table : BTreeMap ℤ ℤ) (pairs : Pairs) : Type 0 where
   pub count : btree_map_len table ≡ length pairs
 
 module _ {D : Type 0} (d : Ghosts D) where
-  -- The session has these pairs: its map answers as they do, and its log file is the open lane of generation 2 with a batch for each.
+  -- The session has these pairs: its map answers as they do, and its log file is the open lane of generation
+  -- 2 with a batch for each.
   pub record Keeps (session : Session D) (pairs : Pairs) : Type 0 where
     pub table : IsMapOf session.pairs pairs
     pub logged : MayBeLogged pairs

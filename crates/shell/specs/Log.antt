@@ -28,12 +28,14 @@ pub record MayBeLogged (pairs : Pairs) : Type 0 where
 abbrev pub log_text : Pairs → List ℕ
 log_text pairs = lane_text 2 0 (map pair_body pairs)
 
--- The file is the log of these pairs: behind the last batch stands a gate that isn't open, and whatever follows doesn't count.
+-- The file is the log of these pairs: behind the last batch stands a gate that isn't open, and whatever
+-- follows doesn't count.
 pub record IsLogOf (pairs : Pairs) (bytes : List ℕ) : Type 0 where
   pub logged : MayBeLogged pairs
   pub lane : IsLane 2 0 (map pair_body pairs) bytes
 
--- Behind the batches of these pairs there is no gate, or an open one behind which no further batch of the log stands.
+-- Behind the batches of these pairs there is no gate, or an open one behind which no further batch of the log
+-- stands.
 pub data Breaks (pairs : Pairs) (behind : List ℕ) : Type 0 where
   NoGate : behind ≡ [] → Breaks pairs behind
   OtherLength : (rest : List ℕ) → behind ≡ 1 ∷ rest → take 4 rest ≢ to_le_bytes w32 16 → Breaks pairs behind
@@ -41,7 +43,8 @@ pub data Breaks (pairs : Pairs) (behind : List ℕ) : Type 0 where
   TooLate : (rest : List ℕ) → behind ≡ 1 ∷ rest → last_end < gate_place (length pairs + 1) → Breaks pairs behind
   SameKey : (pair : ℤ × ℤ) (rest : List ℕ) → FitsPair pair → behind ≡ batch_text (pair_body pair) ++ rest → is_some (value_of pairs pair.0) ≡ true → Breaks pairs behind
 
--- The file is open, but it is too short for a head and a gate, has the head of another generation or lane, or breaks off behind some batches.
+-- The file is open, but it is too short for a head and a gate, has the head of another generation or lane, or
+-- breaks off behind some batches.
 pub data IsDamaged (bytes : List ℕ) : Type 0 where
   Short : IsOpen bytes → length bytes < 12 → IsDamaged bytes
   OtherHead : IsOpen bytes → take 11 bytes ≢ header_text 2 0 → IsDamaged bytes

@@ -22,7 +22,8 @@ IsFound bytes content.NotOpen = ForSome bytes (λ bytes. log_reads bytes NotOpen
 IsFound bytes content.Damaged = ForSome bytes (λ bytes. log_reads bytes Damaged)
 IsFound bytes (content.Holding table) = (pairs : Pairs) × IsMapOf table pairs × MayBeLogged pairs × ForSome bytes (λ bytes. log_reads bytes (Holding pairs))
 
--- the count of the disk's faults, by why a log file wasn't read: it rose by one, or memory ran out and it stands
+-- the count of the disk's faults, by why a log file wasn't read: it rose by one, or memory ran out and it
+-- stands
 abbrev pub FaultCause : ReadFault → ℕ → ℕ → Type 0
 FaultCause Failed old new = new ≡ one_more old
 FaultCause OutOfMemory old new = new ≡ old
@@ -49,7 +50,8 @@ Comes front.More pairs bytes = StartsWith pairs bytes
 Comes front.Ends pairs bytes = IsLogOf pairs bytes
 Comes front.Breaks pairs bytes = IsDamaged bytes
 
--- So far the file was read, of which these bytes are there: the map has the pairs, and that comes behind them.
+-- So far the file was read, of which these bytes are there: the map has the pairs, and that comes behind
+-- them.
 pub record Reached (content : Option (List ℕ)) (size : ℕ) (front : Front) (table : BTreeMap ℤ ℤ) : Type 0 where
   pub pairs : Pairs
   pub table_is : IsMapOf table pairs
@@ -57,7 +59,8 @@ pub record Reached (content : Option (List ℕ)) (size : ℕ) (front : Front) (t
   pub within : gate_place (length pairs) ≤ size
   pub comes : ForSome content (Comes front pairs)
 
--- what stands behind the batches of these pairs at the front of a text: less than a batch, a closed gate, or what is no batch that goes on the log, whatever follows
+-- what stands behind the batches of these pairs at the front of a text: less than a batch, a closed gate, or
+-- what is no batch that goes on the log, whatever follows
 abbrev pub Stands : Front → Pairs → List ℕ → Type 0
 Stands front.More pairs behind = length behind < 21
 Stands front.Ends pairs behind = HasClosedGate behind

@@ -10,7 +10,8 @@ module _ {K : Type 0} (k : Ghosts K) where
   abbrev pub Took : List ℕ → K → K → Type 0
   Took bytes old new = k.taken new ≡ option_map (λ taken. taken ++ bytes) (k.taken old)
 
-  -- A text was printed since the start: the sink took a front of it, and the rest waits, or one push failed, the last.
+  -- A text was printed since the start: the sink took a front of it, and the rest waits, or one push failed,
+  -- the last.
   pub record IsPrinted (start : K) (text : List ℕ) (printer : Printer) (now : K) : Type 0 where
     pub front : List ℕ
     pub rest : List ℕ

@@ -10,7 +10,8 @@ use Rattle.shell.specs.declared.script.Script.{Script}
 abbrev pub script_of : Script → Option (List KvStatement)
 script_of script = option_map (λ v. v.items) script.session
 
--- The lines read so far stand at the front, and whatever statements the whole text is the lines of begin with these.
+-- The lines read so far stand at the front, and whatever statements the whole text is the lines of begin with
+-- these.
 pub record LinesSoFar (text : List ℕ) (statements : List KvStatement) (rest : List ℕ) : Type 0 where
   pub text_is : text ≡ flat_map statement_text statements ++ rest
   pub fits : AllByRecursion Fits statements

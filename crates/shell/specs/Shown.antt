@@ -7,7 +7,8 @@ use Rattle.shell.specs.Printed.{Took}
 use Rattle.shell.specs.Text.{status_of, text_of}
 use Rattle.shell.specs.declared.end.CallEnd.TheVariants.{Done}
 
--- The sink took the text of the outcome, or one push failed and it took a front. The status is the end's, or 6 where all was done and the sink failed.
+-- The sink took the text of the outcome, or one push failed and it took a front. The status is the end's, or
+-- 6 where all was done and the sink failed.
 pub record Shows {K : Type 0} (k : Ghosts K) (view : OutcomeView) (old new : K) (status : ℕ) : Type 0 where
   pub front : List ℕ
   pub rest : List ℕ

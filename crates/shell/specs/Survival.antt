@@ -18,12 +18,14 @@ use Rattle.shell.specs.declared.end.CallEnd.TheVariants.{Done, OutOfMemory, Disk
 abbrev pub BeforeOrAfter : Pairs → KvStatement → List ℕ → Type 0
 BeforeOrAfter pairs statement image = IsLogOf pairs image ⊎ IsLogOf (pairs_after pairs statement) image
 
--- No session was begun: the file is as it was, or, if its disk failed and it wasn't open, one that begins a session with no pairs.
+-- No session was begun: the file is as it was, or, if its disk failed and it wasn't open, one that begins a
+-- session with no pairs.
 abbrev pub LeftUnbegun : CallEnd → List ℕ → List ℕ → Type 0
 LeftUnbegun (Disk file) bytes image = (image ≡ bytes) ⊎ (¬ (IsOpen bytes) × BeginsWith [] image)
 LeftUnbegun other bytes image = image ≡ bytes
 
--- the file begins a session with the pairs that some of the statements leave: at least so many, and at most so many, of the first
+-- the file begins a session with the pairs that some of the statements leave: at least so many, and at most
+-- so many, of the first
 abbrev pub HasFirst : Pairs → List KvStatement → ℕ → ℕ → List ℕ → Type 0
 HasFirst pairs statements least most image =
     (n : ℕ) × (least ≤ n) × (n ≤ most) × BeginsWith (pairs_after_all pairs (take n statements)) image
@@ -33,7 +35,8 @@ module _ {D : Type 0} (d : Ghosts D) where
   abbrev pub OldOrEmpty : D → List ℕ → Type 0
   OldOrEmpty old image = d.may_leave old image ⊎ BeginsWith [] image
 
-  -- Of statements over these pairs so many were answered and so many tried. A crash at any moment since leaves the pairs of the first of them, and one at the end those of all that were answered.
+  -- Of statements over these pairs so many were answered and so many tried. A crash at any moment since
+  -- leaves the pairs of the first of them, and one at the end those of all that were answered.
   pub record Outlasts (pairs : Pairs) (statements : List KvStatement) (answered tried : ℕ) (old new : D) : Type 0 where
     pub moments : LeavesOnly d old new (HasFirst pairs statements 0 tried)
     pub now : (image : List ℕ) → d.may_leave new image → HasFirst pairs statements answered tried image
@@ -45,7 +48,8 @@ module _ {D : Type 0} (d : Ghosts D) where
     pub stops : RunStops pairs script word shown
     pub outlasts : Outlasts pairs stops.statements stops.place (stops.place + more) old new
 
-  -- A script was run over a log file of these bytes, on which nothing was pending: what a crash leaves at each moment of the run, and at its end.
+  -- A script was run over a log file of these bytes, on which nothing was pending: what a crash leaves at
+  -- each moment of the run, and at its end.
   abbrev pub Survives : List ℕ → Option (List KvStatement) → D → CallEnd → Option (List Reply) → D → Type 0
   Survives bytes script old Done shown new =
       (pairs : Pairs) × BeginsWith pairs bytes

@@ -44,8 +44,8 @@ fn answer_all<D: Disk>(
         → (file ≡ even_file 0)
         × (D.faults (disk_of session.new.writer) ≡ one_more (D.faults (disk_of session.old.writer)))) }
     ensures room { length statements.now ≤ vec_capacity replies.new }
-    ensures still { CountStands (D.faults (disk_of session.old.writer)) (D.faults
-        (disk_of session.new.writer)) result }
+    ensures still { CountStands (D.faults (disk_of session.old.writer))
+        (D.faults (disk_of session.new.writer)) result }
     ensures outlasts { OnOk result ((pairs : Pairs) → Secures D.Disk session.old pairs
         → Outlasts D.Disk pairs statements.now (length statements.now) (length statements.now)
         (disk_of session.old.writer) (disk_of session.new.writer)) }

@@ -149,8 +149,8 @@ fn make_empty<D: Disk>(writer: &mut LaneWriter<D>) -> Result<(), LaneFault>
     ensures still { OnOk result (D.faults (disk_of writer.new) ≡ D.faults (disk_of writer.old)) }
     ensures cause { IfErr result (NamesItsFile D.Disk writer.old writer.new) }
     ensures moments { IsSome (D.content (disk_of writer.old))
-        → LeavesOnly D.Disk (disk_of writer.old) (disk_of writer.new) (OldOrEmpty D.Disk
-        (disk_of writer.old)) }
+        → LeavesOnly D.Disk (disk_of writer.old) (disk_of writer.new)
+        (OldOrEmpty D.Disk (disk_of writer.old)) }
     ensures durable { OnOk result (IsSome (D.content (disk_of writer.old))
         → IsSettled D.Disk writer.new 2 []) }
 {
@@ -172,8 +172,8 @@ fn force_pair<D: Disk>(writer: &mut LaneWriter<D>, key: i64, value: i64) -> Resu
     ensures cause { IfErr result (λ stop. (stop ≡ Stop.Disk (even_file 0))
         × (D.faults (disk_of writer.new) ≡ one_more (D.faults (disk_of writer.old)))) }
     ensures moments { (bodies : List (List ℕ)) → IsSettled D.Disk writer.old 2 bodies
-        → LeavesOnly D.Disk (disk_of writer.old) (disk_of writer.new) (WithOrWithout 2 0 bodies (pair_body
-        (key, value))) }
+        → LeavesOnly D.Disk (disk_of writer.old) (disk_of writer.new)
+        (WithOrWithout 2 0 bodies (pair_body (key, value))) }
     ensures crash { (bodies : List (List ℕ)) → IsSettled D.Disk writer.old 2 bodies
         → LeavesNow D.Disk (disk_of writer.new) (WithOrWithout 2 0 bodies (pair_body (key, value))) }
     ensures durable { OnOk result ((bodies : List (List ℕ)) → IsSettled D.Disk writer.old 2 bodies
