@@ -11,7 +11,9 @@ const PIECE: usize = 16384;
 /// Why the input wasn't read.
 #[derive(Clone, Copy, Debug, PartialEq, Eq)]
 pub(crate) enum InputFault {
+    /// The source failed.
     Source,
+    /// Memory ran out.
     OutOfMemory,
 }
 
@@ -55,8 +57,8 @@ fn pull_more<S: Source>(
     ensures more { IfOk result (λ more. MatchBool more
         ((vec_len input.old < vec_len input.new) × (vec_len input.new ≤ vec_len input.old + length piece.old))
         ((input.new.items ≡ input.old.items) × HasEnded S.Source source.new)) }
-    ensures stopped { IfErr result (λ fault. StopsWithin S.Source
-        (length piece.old) fault source.old source.new) }
+    ensures stopped { IfErr result
+        (λ fault. StopsWithin S.Source (length piece.old) fault source.old source.new) }
 {
     let n = match source.pull(piece) {
         Ok(n) => n,
