@@ -1,5 +1,5 @@
 -- Plans of change calls that are carried out one after the other.
-use Rattle.std.proofs.Common.{◌≡◌, ◌⊎◌, inl, inr, ⊎_elim, List, [], ◌∷◌, ◌++◌, Bool, true, false, Option, Some, None, IsSomeAnd, Result, Ok, Err, IsOk, IsErr, OnOk, OnErr, refl, sym, ◌∙◌, ap, subst}
+use Rattle.std.proofs.Common.{◌≡◌, inl, inr, List, [], ◌∷◌, ◌++◌, true, false, Option, Some, None, IsSomeAnd, Result, Ok, Err, IsOk, IsErr, OnOk, OnErr, refl, sym, ◌∙◌, ap, subst}
 use Rattle.std.specs.Option.{ForSome}
 use Rattle.disk_core.specs.ChangeCalls.{ChangeCall, CallMade, all_made, StoppedIn, Made}
 

@@ -11,8 +11,8 @@ use std::io;
 use std::marker::Model;
 use std::os::unix::fs::FileExt;
 
-/// A file of the system, read and written at places. A read, a write or a sync that a signal interrupts is made
-/// again, and one that reads or writes a part is continued.
+/// A file of the system, read and written at places. A read, a write or a sync that a signal interrupts is
+/// made again, and one that reads or writes a part is continued.
 #[derive(Drop)]
 pub struct FileDisk {
     file: Option<File>,

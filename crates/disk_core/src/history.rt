@@ -11,8 +11,8 @@ use crate::OutOfMemory;
 use std::alloc::Global;
 use std::marker::Model;
 
-/// A change call: a write that succeeded, one that failed after it had begun on a disk of that size, a sync that
-/// succeeded, or one that failed.
+/// A change call: a write that succeeded, one that failed after it had begun on a disk of that size, a sync
+/// that succeeded, or one that failed.
 #[derive(Clone, Copy)]
 pub(crate) enum Entry {
     Write { at: usize, len: usize },

@@ -1,5 +1,5 @@
-//! One file of a database as the engine sees it, in memory or of the system, and the files of a store by their
-//! names.
+//! One file of a database as the engine sees it, in memory or of the system, and the files of a store by
+//! their names.
 #![tactic(auto)]
 
 mod disk;

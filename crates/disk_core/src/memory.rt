@@ -1,6 +1,7 @@
 // A disk in memory, whose content and calls are known. It fails at the calls that are named.
-ghost use Rattle.std.specs.Prelude.{◌≡◌, ◌⊎◌, ◌↔◌, ◌+◌, ◌<◌, ◌≤◌, List, ℕ, [], ◌∷◌, Some, length, slice_index};
-ghost use Rattle.std.specs.Prelude.{EachIndex, Contains, IsTrue, IsErr, IfOk, OnOk, OnErr, vec_len, vec_capacity};
+ghost use Rattle.std.specs.Prelude.{◌≡◌, ◌⊎◌, ◌↔◌, ◌+◌, ◌<◌, ◌≤◌, List, ℕ, [], ◌∷◌, Some, length};
+ghost use Rattle.std.specs.Prelude.{slice_index, vec_len, vec_capacity};
+ghost use Rattle.std.specs.Prelude.{EachIndex, Contains, IsTrue, IsErr, IfOk, OnOk, OnErr};
 ghost use Rattle.causes.specs.Causes.{HasCause, one_more};
 ghost use Rattle.disk_core.specs.ChangeCalls.{Made, SyncCall, WriteCall};
 ghost use Rattle.disk_core.specs.Crash.{Elapses, Follows, NoneNew, Only, Tears};
@@ -82,9 +83,9 @@ impl MemDisk {
         })
     }
 
-    /// Names the calls that return `Failed`, in place of those that were named before. The first call after this
-    /// one is 1; `changes` counts the calls of `write_at` and `sync` together, `reads` those of `size` and
-    /// `read_at`.
+    /// Names the calls that return `Failed`, in place of those that were named before. The first call after
+    /// this one is 1; `changes` counts the calls of `write_at` and `sync` together, `reads` those of `size`
+    /// and `read_at`.
     pub fn failing(self, changes: Vec<u64>, reads: Vec<u64>) -> MemDisk
         ensures { result ≡ record self {
           changes = 0;
@@ -107,8 +108,8 @@ impl MemDisk {
         self.content.as_slice()
     }
 
-    /// How many bytes a crash now leaves at least: as many as there were at the last sync. At most it leaves as
-    /// many as there are.
+    /// How many bytes a crash now leaves at least: as many as there were at the last sync. At most it leaves
+    /// as many as there are.
     pub fn least_size(&self) -> u64
         ensures least { result ≡ length (synced_of self.now) }
         ensures most { result ≤ length (content_of self.now) }
@@ -118,10 +119,10 @@ impl MemDisk {
         self.synced.as_slice().len() as u64
     }
 
-    /// The disk that a crash leaves, of that size. In the order of their places, each byte that a write since the
-    /// last sync has written takes the next byte of `choice`, which repeats, where a crash may leave that there,
-    /// and else is what it was at the last sync, 0 past the end then. With an empty `choice` each byte is as a read
-    /// gives it. The new disk has the room that was left.
+    /// The disk that a crash leaves, of that size. In the order of their places, each byte that a write
+    /// since the last sync has written takes the next byte of `choice`, which repeats, where a crash may
+    /// leave that there, and else is what it was at the last sync, 0 past the end then. With an empty
+    /// `choice` each byte is as a read gives it. The new disk has the room that was left.
     pub fn crash(mut self, choice: &[u8], size: u64) -> MemDisk
         requires least { length (synced_of self) ≤ size }
         requires most { size ≤ length (content_of self) }
@@ -284,7 +285,8 @@ impl Disk for MemDisk {
         requires { at ≤ length (content_of self.old) }
         ensures written { Writes (Some (content_of self.old)) at bytes.now result
             (Some (content_of self.new)) }
-        ensures calls { Made (WriteCall at bytes.now ∷ []) result (known_calls self.old) (known_calls self.new) }
+        ensures calls { Made (WriteCall at bytes.now ∷ []) result
+            (known_calls self.old) (known_calls self.new) }
         ensures crash { Follows (Tears at bytes.now) (CrashLeaves self.old) (CrashLeaves self.new) }
         ensures time { Elapses (length self.old.calls) (length self.new.calls)
             (CrashLeftSince self.old) (CrashLeftSince self.new) (CrashLeaves self.new) }
@@ -323,8 +325,8 @@ impl Disk for MemDisk {
             (CrashLeftSince self.old) (CrashLeftSince self.new) (CrashLeaves self.new) }
         ensures cause { HasCause self.old.faults self.new.faults result }
 
-        // It fails exactly where it is named or finds too little room, and then a crash may leave what it might
-        // before.
+        // It fails exactly where it is named or finds too little room, and then a crash may leave what it
+        // might before.
         ensures named { IsErr result ↔ Contains self.old.failing_changes (one_more self.old.changes)
             ⊎ (self.old.room < room_of 0) }
         ensures counted { self.new ≡ after_sync result self.old }

@@ -4,8 +4,8 @@ ghost use Rattle.disk_core.specs.Places.{chosen_or_synced, crashed_byte};
 
 use crate::history::History;
 
-/// Makes of what a read gives the bytes that a crash with this choice leaves. `synced` is what a read gave at the
-/// last sync.
+/// Makes of what a read gives the bytes that a crash with this choice leaves. `synced` is what a read gave
+/// at the last sync.
 pub(crate) fn tear(image: &mut [u8], synced: &[u8], history: &History, choice: &[u8])
     ensures { EachIndex image.new (λ place. slice_index image.new place
         ≡ crashed_byte synced.now image.old history.now.calls choice.now place) }

@@ -35,8 +35,8 @@ impl StdSource {
     }
 }
 
-/// Standard output, seen as how many of its calls have failed. A write that a signal interrupts, or that takes a part,
-/// is continued.
+/// Standard output, seen as how many of its calls have failed. A write that a signal interrupts, or that
+/// takes a part, is continued.
 #[derive(Drop)]
 pub struct StdSink {
     output: Stdout,

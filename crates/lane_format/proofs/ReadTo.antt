@@ -1,10 +1,10 @@
 -- One batch more is read, and what has been read is the whole file.
-use Rattle.std.proofs.Common.{◌≡◌, ◌⊎◌, inl, inr, ℕ, ◌+◌, ◌≤◌, List, [], ◌∷◌, ◌++◌, length, drop, refl, sym, ◌∙◌, ap, arith, append_assoc, length-append}
+use Rattle.std.proofs.Common.{◌≡◌, ℕ, ◌+◌, List, [], ◌∷◌, ◌++◌, length, drop, refl, sym, ◌∙◌, ap, arith, append_assoc, length-append}
 use Rattle.std.proofs.lemmas.List.{append-nil}
 use Rattle.std.proofs.lemmas.Grind.{flat_map-append}
 use Rattle.std.specs.List.{flat_map}
 use Rattle.lane_format.specs.Lane.{IsBody, batch_text}
-use Rattle.lane_format.specs.LaneRead.{HasBatches, placed}
+use Rattle.lane_format.specs.LaneRead.{placed}
 use Rattle.lane_format.specs.ReadingSteps.{ReadTo}
 use Rattle.lane_format.specs.declared.segment.Batch.{Batch}
 use Rattle.lane_format.proofs.Gates.{length-batch_text}

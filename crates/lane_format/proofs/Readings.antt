@@ -1,11 +1,11 @@
 -- A lane file has exactly one reading.
-use Rattle.std.proofs.Common.{◌≡◌, ◌≢◌, ◌⊎◌, inl, inr, ℕ, zero, suc, ◌+◌, ◌%◌, ◌^◌, ◌<◌, ◌≤◌, Bool, true, false, if◌then◌else◌, List, [], ◌∷◌, ◌++◌, length, take, drop, get_or, slice_index, refl, sym, ◌∙◌, ap, subst, append_assoc, length-append, length-drop, length-take, arith}
+use Rattle.std.proofs.Common.{◌≡◌, ◌≢◌, ◌⊎◌, inl, inr, ℕ, zero, suc, ◌+◌, ◌%◌, ◌<◌, ◌≤◌, Bool, if◌then◌else◌, List, [], ◌∷◌, ◌++◌, length, take, drop, get_or, slice_index, refl, sym, ◌∙◌, ap, subst, append_assoc, length-append, length-drop, length-take, arith}
 use Rattle.std.specs.List.{AllByRecursion, flat_map}
 use Rattle.std.specs.Int.{w16, w32, w64, from_le_bytes, to_le_bytes}
 use Rattle.std.proofs.lemmas.Bool.{cases_eq, cases_lt}
 use Rattle.std.proofs.lemmas.List.{take_at, drop_at, get_or-drop, get_or-take, get_or_past}
 use Rattle.std.proofs.lemmas.Nat.{from_le_bytes-to_le_bytes_2, from_le_bytes-to_le_bytes_8, le_bytes_4}
-use Rattle.lane_format.specs.Lane.{IsBody, IsLane, IsNotOpen, IsOpen, batch_text, header_text, lane_text}
+use Rattle.lane_format.specs.Lane.{IsBody, IsLane, IsNotOpen, IsOpen, batch_text, header_text}
 use Rattle.lane_format.specs.LaneRead.{DamagedAt, HasBatches, HasHead, Holding, IsDamaged, IsOfFile, IsWhole, LacksBatch, LaneRead, NotOpen, generation_in, lane_in, lane_reads, placed}
 use Rattle.lane_format.specs.LaneRead.{NoBatch, OtherGeneration, OtherLane, Short}
 use Rattle.lane_format.specs.declared.segment.Batch.{Batch}

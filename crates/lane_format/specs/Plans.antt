@@ -3,7 +3,6 @@ use Rattle.std.specs.Prelude.{ℕ, ◌+◌, List, [], ◌∷◌, ◌++◌, Resul
 use Rattle.std.specs.Int.{w16, w64, to_le_bytes}
 use Rattle.disk_core.specs.ChangeCalls.{ChangeCall, Made, SyncCall, WriteCall}
 use Rattle.disk_core.specs.declared.disk.Disk.{Ghosts}
-use Rattle.lane_format.specs.Lane.{frame_text}
 use Rattle.lane_format.specs.Writer.{IsFailed, disk_of}
 use Rattle.lane_format.specs.declared.writer.LaneFault.{LaneFault}
 use Rattle.lane_format.specs.declared.writer.LaneWriter.{LaneWriter}

@@ -1,5 +1,5 @@
 -- What a window over a file has of it.
-use Rattle.std.specs.Prelude.{◌≡◌, ℕ, ◌+◌, ◌≤◌, List, length, take, drop, Option}
+use Rattle.std.specs.Prelude.{◌≡◌, ℕ, ◌+◌, ◌≤◌, List, take, drop, Option}
 use Rattle.std.specs.Option.{ForSome}
 use Rattle.lane_format.specs.declared.window.Window.{Window}
 

@@ -15,7 +15,8 @@ pub fn some_reading()
         (read : LaneRead) × lane_reads odd lane bytes read }
 {}
 
-/// What a writer's reset and forces have made is read again, with each body at its place, whatever follows it.
+/// What a writer's reset and forces have made is read again, with each body at its place, whatever follows
+/// it.
 pub fn reads_what_was_written()
     ensures { (odd : Bool) (generation lane : ℕ) (bodies : List (List ℕ)) (bytes : List ℕ) →
         IsOfFile odd generation → IsLane generation lane bodies bytes →

@@ -7,7 +7,8 @@ ghost use Rattle.causes.specs.Causes.{HasCause, one_more};
 ghost use Rattle.disk_core.specs.Moments.{OnlyReads};
 ghost use Rattle.disk_core.specs.declared.store.FileName.{FileName};
 ghost use Rattle.lane_format.specs.Lane.{IsNotOpen, IsOpen};
-ghost use Rattle.lane_format.specs.LaneRead.{HasHead, IsDamaged, IsOfFile, LacksBatch, generation_in, lane_reads, read_as};
+ghost use Rattle.lane_format.specs.LaneRead.{HasHead, IsDamaged, IsOfFile, LacksBatch, generation_in};
+ghost use Rattle.lane_format.specs.LaneRead.{lane_reads, read_as};
 ghost use Rattle.lane_format.specs.ReadingSteps.{NextIs, ReadTo, StopHasCause, StopsAt, found_as};
 ghost use Rattle.lane_format.specs.Windows.{IsWindow};
 
@@ -25,8 +26,8 @@ const OPEN: u8 = 1;
 const BATCH_HEAD: u64 = 5;
 
 /// Reads the file of a lane, that of odd generations or that of even ones: None where its gate isn't open.
-/// `Damaged` names the first place at which an open file isn't what a lane file holds. The time is linear in the
-/// file's size, and memory is taken for a body once its length was found to lie within the file.
+/// `Damaged` names the first place at which an open file isn't what a lane file holds. The time is linear in
+/// the file's size, and memory is taken for a body once its length was found to lie within the file.
 pub fn read_segment<D: Disk>(
     alloc: Global,
     disk: &mut D,
@@ -34,7 +35,8 @@ pub fn read_segment<D: Disk>(
     lane: u16,
 ) -> Result<Option<Segment>, LaneReadFault>
     // It says what the file reads as, where the content is known.
-    ensures segment { ForSome (D.content disk.old) (λ bytes. IfSome (read_as result) (lane_reads odd lane bytes)) }
+    ensures segment { ForSome (D.content disk.old) (λ bytes.
+        IfSome (read_as result) (lane_reads odd lane bytes)) }
 
     // The disk is only read. A fault names the file, and comes where one call of the disk failed.
     ensures only_reads { OnlyReads D.Disk disk.old disk.new }
@@ -60,7 +62,8 @@ fn read<D: Disk>(
     odd: bool,
     lane: u16,
 ) -> Result<Option<Segment>, ReadStop>
-    ensures segment { ForSome (D.content disk.old) (λ bytes. IfSome (found_as result) (lane_reads odd lane bytes)) }
+    ensures segment { ForSome (D.content disk.old) (λ bytes.
+        IfSome (found_as result) (lane_reads odd lane bytes)) }
     ensures only_reads { OnlyReads D.Disk disk.old disk.new }
     ensures cause { StopHasCause (D.faults disk.old) (D.faults disk.new) result }
 {
@@ -79,7 +82,8 @@ fn read<D: Disk>(
 /// Whether the file's gate is open.
 fn is_open<D: Disk>(disk: &mut D, size: u64) -> Result<bool, Failed>
     requires { ForSome (D.content disk.old) (λ bytes. size ≡ length bytes) }
-    ensures gate { IfOk result (λ is_open. ForSome (D.content disk.old) (λ bytes. IsTrue is_open ↔ IsOpen bytes)) }
+    ensures gate { IfOk result (λ is_open. ForSome (D.content disk.old) (λ bytes.
+        IsTrue is_open ↔ IsOpen bytes)) }
     ensures only_reads { OnlyReads D.Disk disk.old disk.new }
     ensures cause { HasCause (D.faults disk.old) (D.faults disk.new) result }
 {

@@ -27,7 +27,8 @@ fn put<D: Disk>(disk: &mut D, at: u64, bytes: &[u8]) -> Result<(), Failed>
     requires { ForSome (D.content disk.old) (λ old. at ≤ length old) }
     ensures written { OnOk result
         (D.content disk.new ≡ option_map (written at bytes.now) (D.content disk.old)) }
-    ensures calls { Made (WriteCall at bytes.now ∷ SyncCall ∷ []) result (D.calls disk.old) (D.calls disk.new) }
+    ensures calls { Made (WriteCall at bytes.now ∷ SyncCall ∷ []) result
+        (D.calls disk.old) (D.calls disk.new) }
     ensures told { IsSome (D.content disk.old) → IsSome (D.content disk.new) }
     ensures durable { OnOk result (NothingPending (D.content disk.new) (D.may_leave disk.new)) }
     ensures crash { Follows (Tears at bytes.now) (D.may_leave disk.old) (D.may_leave disk.new) }

@@ -1,4 +1,5 @@
-// A piece of a file that is read from its front to its end, so that many small reads make few calls of its disk.
+// A piece of a file that is read from its front to its end, so that many small reads make few calls of its
+// disk.
 use disk_core::{Disk, Failed};
 
 /// How many bytes are read at a time.
@@ -31,7 +32,8 @@ impl Window {
         }
     }
 
-    /// Fills `into` with the bytes of the file from `at` on. A read that isn't longer than a window goes through it.
+    /// Fills `into` with the bytes of the file from `at` on. A read that isn't longer than a window goes
+    /// through it.
     pub(crate) fn fetch<D: Disk>(
         &mut self,
         disk: &mut D,

@@ -156,8 +156,8 @@ impl<D: Disk> LaneWriter<D> {
     }
 
     /// Appends one batch, and brings it to where a crash leaves it. Its body is the frame without its first
-    /// four bytes, which this call fills with the body's length, and without its last one, which it fills with a
-    /// closed gate.
+    /// four bytes, which this call fills with the body's length, and without its last one, which it fills
+    /// with a closed gate.
     pub fn force(&mut self, frame: &mut [u8]) -> Result<(), LaneFault>
         requires open { ((generation : ℕ) × (bodies : List (List ℕ))
             × Holds D.Disk self.old generation bodies) ⊎ IsFailed self.old }

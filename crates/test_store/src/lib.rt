@@ -9,4 +9,6 @@ mod lanes;
 #[cfg(test)]
 mod runs;
 #[cfg(test)]
+mod segments;
+#[cfg(test)]
 mod streams;
