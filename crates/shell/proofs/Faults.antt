@@ -9,7 +9,7 @@ use Rattle.lane_format.specs.declared.writer.LaneFault.TheVariants.{Disk, Closed
 use Rattle.lane_format.specs.declared.writer.LaneWriter.{LaneWriter}
 use Rattle.lane_format.specs.declared.writer.Stage.TheVariants.{Failed}
 use Rattle.shell.specs.Opening.{FaultCause, HasReadCause}
-use Rattle.shell.specs.Running.{CountStands, NamesItsFile, StopStands}
+use Rattle.shell.specs.Stopping.{CountStands, NamesItsFile, StopStands}
 use Rattle.shell.specs.declared.reading.ReadFault.{ReadFault}
 use Rattle.shell.specs.declared.reading.ReadFault.TheVariants as fault
 use Rattle.shell.specs.declared.stop.Stop.{Stop}

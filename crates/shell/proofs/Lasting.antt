@@ -7,7 +7,8 @@ use Rattle.lane_format.specs.Writer.{disk_of}
 use Rattle.shell.specs.Keeping.{Secures}
 use Rattle.shell.specs.Kv.{Pairs, pairs_after, pairs_after_all}
 use Rattle.shell.specs.Log.{BeginsWith, IsLogOf}
-use Rattle.shell.specs.Running.{CannotOpen, RunStops}
+use Rattle.shell.specs.Running.{RunStops}
+use Rattle.shell.specs.Stopping.{CannotOpen}
 use Rattle.shell.specs.Survival.{HasFirst, IsQuiet, LeftUnbegun, Outlasts, Survives, BeforeOrAfter}
 use Rattle.shell.proofs.Answering.{pairs_after_all-push}
 use Rattle.shell.specs.declared.end.CallEnd.{CallEnd}

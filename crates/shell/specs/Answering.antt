@@ -8,7 +8,7 @@ use Rattle.lane_format.specs.Writer.{disk_of, even_file}
 use Rattle.shell.specs.Keeping.{Keeps, Secures}
 use Rattle.shell.specs.Kv.{Pairs, pairs_after, reply_to}
 use Rattle.shell.specs.Log.{IsLogOf}
-use Rattle.shell.specs.Running.{CountStands}
+use Rattle.shell.specs.Stopping.{CountStands}
 use Rattle.shell.specs.Survival.{BeforeOrAfter}
 use Rattle.shell.specs.declared.reply.Reply.{Reply}
 use Rattle.shell.specs.declared.session.Session.{Session}

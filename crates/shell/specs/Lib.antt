@@ -14,3 +14,4 @@ pub mod Files
 pub mod Opening
 pub mod Survival
 pub mod Answering
+pub mod Stopping

@@ -1,21 +1,15 @@
 -- How a run of a script over the log file ends, what it shows and why.
-use Rattle.std.specs.Prelude.{◌≡◌, ◌⊎◌, ℕ, ◌-◌, ◌<◌, List, ◌++◌, length, take, replicate, Option, None, Some, Result, Ok, Err, ⊤}
+use Rattle.std.specs.Prelude.{◌≡◌, ◌⊎◌, ℕ, ◌-◌, ◌<◌, List, ◌++◌, length, take, replicate, Option, None, Some}
 use Rattle.std.specs.Option.{option_map, ForSome}
 use Rattle.causes.specs.Causes.{one_more}
 use Rattle.disk_core.specs.declared.disk.Disk.{Ghosts}
-use Rattle.disk_core.specs.declared.store.FileName.{FileName}
-use Rattle.lane_format.specs.Writer.{disk_of, even_file, lane_of}
-use Rattle.lane_format.specs.declared.writer.LaneWriter.{LaneWriter}
-use Rattle.lane_format.specs.declared.writer.LaneFault.{LaneFault}
-use Rattle.lane_format.specs.declared.writer.LaneFault.TheVariants as lane
+use Rattle.lane_format.specs.Writer.{even_file}
 use Rattle.shell.specs.Log.{BeginsWith, IsDamaged, IsLogOf}
 use Rattle.shell.specs.Kv.{Pairs, pairs_after_all, replies_to}
 use Rattle.shell.specs.Script.{statements_in}
 use Rattle.shell.specs.declared.statement.KvStatement.{KvStatement}
 use Rattle.shell.specs.declared.reply.Reply.{Reply}
 use Rattle.shell.specs.declared.reply.Reply.TheVariants.{Stopped, StoppedMemory}
-use Rattle.shell.specs.declared.stop.Stop.{Stop}
-use Rattle.shell.specs.declared.stop.Stop.TheVariants as stop
 use Rattle.shell.specs.declared.end.CallEnd.{CallEnd}
 use Rattle.shell.specs.declared.end.CallEnd.TheVariants.{Done, OutOfMemory, Disk, Damaged}
 
@@ -37,25 +31,6 @@ pub record RunsShort (pairs : Pairs) (script : Option (List KvStatement)) (shown
   pub stops : RunStops pairs script StoppedMemory shown
   pub kept : ForSome now (IsLogOf (pairs_after_all pairs (take stops.place stops.statements)))
 
--- the file that a fault of a lane names
-abbrev pub file_named : LaneFault → FileName
-file_named (lane.Disk file) = file
-file_named (lane.Closed file) = file
-
--- the fault names the lane's even file, and one call of its disk failed
-abbrev pub NamesItsFile : {D : Type 0} → Ghosts D → LaneWriter D → LaneWriter D → LaneFault → Type 0
-NamesItsFile d old new fault = (file_named fault ≡ even_file (lane_of old)) × (d.faults (disk_of new) ≡ one_more (d.faults (disk_of old)))
-
--- the count of the disk's faults stands still but where a fault of it is reported
-abbrev pub StopStands : ℕ → ℕ → Stop → Type 0
-StopStands before now stop.OutOfMemory = now ≡ before
-StopStands before now (stop.Disk file) = ⊤
-
--- the same of a call's end
-abbrev pub CountStands : {T : Type 0} → ℕ → ℕ → Result T Stop → Type 0
-CountStands before now (Ok _) = now ≡ before
-CountStands before now (Err why) = StopStands before now why
-
 module _ {D : Type 0} (d : Ghosts D) where
   -- A script was run over a log file: how that ended, what it shows, and what it made of the file.
   abbrev pub Runs : Option (List KvStatement) → D → CallEnd → Option (List Reply) → D → Type 0
@@ -70,10 +45,3 @@ module _ {D : Type 0} (d : Ghosts D) where
   Runs script old Damaged shown new =
       ForSome (d.content old) IsDamaged × (shown ≡ None) × (d.content new ≡ d.content old) × (d.faults new ≡ d.faults old)
   Runs script old other shown new = ⊥
-
-  -- the file couldn't be opened: it is damaged or memory ran out, and it stays as it was, or its disk failed
-  abbrev pub CannotOpen : D → CallEnd → D → Type 0
-  CannotOpen old Damaged new = ForSome (d.content old) IsDamaged × (d.content new ≡ d.content old) × (d.faults new ≡ d.faults old)
-  CannotOpen old OutOfMemory new = (d.content new ≡ d.content old) × (d.faults new ≡ d.faults old)
-  CannotOpen old (Disk file) new = (file ≡ even_file 0) × (d.faults new ≡ one_more (d.faults old))
-  CannotOpen old other new = ⊥

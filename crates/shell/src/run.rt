@@ -4,7 +4,8 @@ ghost use Rattle.std.specs.Prelude.{Some, IfErr, OnOk, OnErr, vec_len, vec_capac
 ghost use Rattle.std.specs.Option.{ForSome};
 ghost use Rattle.shell.specs.Log.{BeginsWith};
 ghost use Rattle.shell.specs.Outcome.{view_of};
-ghost use Rattle.shell.specs.Running.{CountStands, Runs};
+ghost use Rattle.shell.specs.Running.{Runs};
+ghost use Rattle.shell.specs.Stopping.{CountStands};
 ghost use Rattle.shell.specs.ReadScript.{script_of};
 ghost use Rattle.causes.specs.Causes.{one_more};
 ghost use Rattle.disk_core.specs.declared.store.FileName.{FileName};
@@ -31,6 +32,9 @@ fn answer_all<D: Disk>(
     requires keeps { (pairs : Pairs) × Keeps D.Disk session.old pairs }
     requires none { replies.old.items ≡ [] }
     requires room { length statements.now ≤ vec_capacity replies.old }
+    ensures room { length statements.now ≤ vec_capacity replies.new }
+
+    // The replies, and the pairs that the session has then.
     ensures ok { OnOk result ((pairs : Pairs) → Keeps D.Disk session.old pairs
         → (replies.new.items ≡ replies_to pairs statements.now)
         × Keeps D.Disk session.new (pairs_after_all pairs statements.now)) }
@@ -40,12 +44,15 @@ fn answer_all<D: Disk>(
     ensures memory { IfErr result (λ stop. stop ≡ Stop.OutOfMemory → (pairs : Pairs)
         → Keeps D.Disk session.old pairs
         → Keeps D.Disk session.new (pairs_after_all pairs (take (vec_len replies.new) statements.now))) }
+
+    // Why it stopped.
     ensures disk { IfErr result (λ stop. (file : FileName) → stop ≡ Stop.Disk file
         → (file ≡ even_file 0)
         × (D.faults (disk_of session.new.writer) ≡ one_more (D.faults (disk_of session.old.writer)))) }
-    ensures room { length statements.now ≤ vec_capacity replies.new }
     ensures still { CountStands (D.faults (disk_of session.old.writer))
         (D.faults (disk_of session.new.writer)) result }
+
+    // What a crash leaves.
     ensures outlasts { OnOk result ((pairs : Pairs) → Secures D.Disk session.old pairs
         → Outlasts D.Disk pairs statements.now (length statements.now) (length statements.now)
         (disk_of session.old.writer) (disk_of session.new.writer)) }

@@ -4,7 +4,7 @@ ghost use Rattle.disk_core.specs.Moments.{LeavesNow, LeavesOnly};
 ghost use Rattle.lane_format.specs.Crash.{WithOrWithout};
 ghost use Rattle.lane_format.specs.Writer.{Holds, IsNear, IsSettled, disk_of, even_file, lane_of, stage_of};
 ghost use Rattle.shell.specs.Kv.{pair_body};
-ghost use Rattle.shell.specs.Running.{NamesItsFile};
+ghost use Rattle.shell.specs.Stopping.{NamesItsFile};
 ghost use Rattle.shell.specs.Survival.{OldOrEmpty};
 ghost use Rattle.lane_format.specs.declared.writer.Stage.TheVariants.{Adopted, Open};
 
@@ -36,7 +36,7 @@ impl<D: Disk> Session<D> {
     ghost use Rattle.shell.specs.Kv.{Pairs, look_up, pairs_after, reply_to, value_of};
     ghost use Rattle.lane_format.specs.Lane.{IsOpen};
     ghost use Rattle.shell.specs.Log.{BeginsWith, IsLogOf, MayBeLogged, Holding, log_reads};
-    ghost use Rattle.shell.specs.Running.{CannotOpen, CountStands};
+    ghost use Rattle.shell.specs.Stopping.{CannotOpen, CountStands};
 
     /// Begins over a log file. One that isn't open becomes an open lane with no pairs; one that is the log of
     /// pairs is continued. One that is damaged stays as it was. An `Err` returns the disk.

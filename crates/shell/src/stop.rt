@@ -1,5 +1,5 @@
 ghost use Rattle.std.specs.Prelude.{◌≡◌};
-ghost use Rattle.shell.specs.Running.{file_named};
+ghost use Rattle.shell.specs.Stopping.{file_named};
 
 use disk_core::FileName;
 use lane_format::LaneFault;

@@ -7,7 +7,7 @@ use Rattle.lane_format.specs.Lane.{body_of}
 use Rattle.lane_format.specs.Writer.{IsSettled, disk_of, even_file, lane_of, stage_of}
 use Rattle.lane_format.specs.declared.writer.Stage.TheVariants.{Failed}
 use Rattle.shell.specs.Kv.{pair_body}
-use Rattle.shell.specs.Running.{NamesItsFile}
+use Rattle.shell.specs.Stopping.{NamesItsFile}
 use Rattle.shell.specs.declared.stop.Stop.TheVariants.{Disk}
 use Rattle.shell.proofs.Faults.{at_this_err, live_has_cause}
 use Rattle.shell.proofs.session.force_pair.Goals as goal

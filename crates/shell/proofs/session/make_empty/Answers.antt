@@ -3,7 +3,7 @@ use Rattle.causes.specs.Causes.{one_more}
 use Rattle.disk_core.specs.declared.store.FileName.{FileName}
 use Rattle.lane_format.specs.Writer.{even_file, stage_of}
 use Rattle.lane_format.specs.declared.writer.Stage.TheVariants.{Failed}
-use Rattle.shell.specs.Running.{NamesItsFile}
+use Rattle.shell.specs.Stopping.{NamesItsFile}
 use Rattle.shell.proofs.Faults.{live_has_cause, at_this_err, map_err}
 use Rattle.shell.proofs.Words.{at_this}
 use Rattle.shell.proofs.session.make_empty.Goals as goal
