@@ -127,31 +127,31 @@ fn a_file_reads_as_its_batches_or_names_the_place_of_its_fault(
 }
 
 /// A file of generation 2 and lane 0 with batches of these lengths, each of a letter of its own.
-fn long_file(alloc: Global, lengths: &[usize]) -> Result<Vec<u8>, Fail> {
+fn long_file(alloc: Global, lengths: &[u32]) -> Result<Vec<u8>, Fail> {
     let mut bytes = Vec::from_slice(alloc, b"\x01\x02\0\0\0\0\0\0\0\0\0")?;
     for (letter, length) in (b'a'..=b'z').zip(lengths.iter()) {
         bytes.push(1)?;
-        bytes.extend_from_slice(&(*length as u32).to_le_bytes())?;
-        bytes.extend_from_slice(&vec![in alloc; letter; *length]?)?;
+        bytes.extend_from_slice(&length.to_le_bytes())?;
+        bytes.extend_from_slice(&vec![in alloc; letter; *length as usize]?)?;
     }
     bytes.push(0)?;
     Ok(bytes)
 }
 
 /// Whether a segment has batches of these lengths, each of a letter of its own at its place.
-fn has_lengths(segment: &Segment, lengths: &[usize]) -> bool {
-    let mut place = 11;
+fn has_lengths(segment: &Segment, lengths: &[u32]) -> bool {
+    let mut place = 11u64;
     let mut letter = b'a';
     if segment.batches.len() != lengths.len() {
         return false;
     }
     for (batch, length) in segment.batches.as_slice().iter().zip(lengths.iter()) {
         let body = batch.body.as_slice();
-        let whole = body.len() == *length && body.iter().all(|byte| *byte == letter);
-        if !whole || batch.at != place + 5 {
+        let whole = body.len() == *length as usize && body.iter().all(|byte| *byte == letter);
+        if !whole || batch.at != place.wrapping_add(5) {
             return false;
         }
-        place = place.wrapping_add(5).wrapping_add(*length as u64);
+        place = place.wrapping_add(5).wrapping_add(u64::from(*length));
         letter = letter.wrapping_add(1);
     }
     true
