@@ -1,0 +1,6 @@
+mod Values
+mod Histories
+mod Keeps
+mod Passing
+mod Finishing
+mod Gathering

@@ -1,0 +1,13 @@
+//! A turnstile: one shared value that threads change in turns, and one history of all changes.
+#![tactic(auto)]
+
+mod pass;
+mod steps;
+mod told;
+mod turnstile;
+mod view;
+
+pub use pass::{Pass, PassWith};
+pub use told::Told;
+pub use turnstile::{Turn, Turnstile};
+pub use view::Adds;
