@@ -1,0 +1,9 @@
+//! Blocks of 4,096 bytes out of one region, given out and taken back.
+#![tactic(auto)]
+
+mod block;
+mod pool;
+
+pub use block::Block;
+pub use causes::OutOfMemory;
+pub use pool::{Pool, PoolFull};
