@@ -1,8 +1,8 @@
 // One block of a pool.
 use std::marker::Model;
 
-/// A block that a pool gave out, seen as its place in the pool. It belongs to that pool, and goes back to it by
-/// `Pool::give`.
+/// A block that a pool gave out, seen as its place in the pool. It belongs to that pool, and goes back to
+/// it by `Pool::give`.
 #[derive(Debug, Drop)]
 pub struct Block {
     place: u32,

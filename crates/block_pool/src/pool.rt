@@ -18,8 +18,8 @@ pub struct PoolFull {
     pub limit: u64,
 }
 
-/// A fixed number of blocks of 4,096 bytes in one region, seen as the list of its blocks: the bytes of each that is
-/// out, nothing for one that is free.
+/// A fixed number of blocks of 4,096 bytes in one region, seen as the list of its blocks: the bytes of each
+/// that is out, nothing for one that is free.
 #[derive(Debug, Drop)]
 pub struct Pool {
     region: Vec<[u8; BLOCK]>,
@@ -37,7 +37,8 @@ impl Model for Pool {
 
     ghost view = { λ p. entries p.outs.items p.region.items };
 
-    ghost invariant = { λ p. IsKept p.outs.items p.region.items p.free.items × (length p.outs.items ≤ vec_capacity p.free) };
+    ghost invariant = { λ p. IsKept p.outs.items p.region.items p.free.items
+        × (length p.outs.items ≤ vec_capacity p.free) };
 }
 
 impl Pool {
@@ -57,13 +58,14 @@ impl Pool {
         Ok(Pool { region, outs, free })
     }
 
-    /// Gives a free block out, which becomes zeros. `PoolFull` comes exactly where all blocks are out, and tells how
-    /// many are out and how many there are.
+    /// Gives a free block out, which becomes zeros. `PoolFull` comes exactly where all blocks are out, and
+    /// tells how many are out and how many there are.
     pub fn take(&mut self) -> Result<Block, PoolFull>
         ensures free { IfOk result (λ block. IsFree self.old block) }
         ensures zeros { IfOk result (λ block. self.new ≡ slice_set self.old block (Some zeros)) }
         ensures full { OnErr result (used self.old ≡ length self.old) }
-        ensures tells { OnErr result (result ≡ Err (record { used = used self.old; limit = length self.old })) }
+        ensures tells { OnErr result (result
+            ≡ Err (record { used = used self.old; limit = length self.old })) }
         ensures same { OnErr result (self.new ≡ self.old) }
     {
         let Some(place) = self.free.pop() else {

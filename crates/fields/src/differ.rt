@@ -1,5 +1,5 @@
-// Where two lists of bytes differ. Whole words of eight bytes are compared first, and single bytes only in the word
-// in which a difference is.
+// Where two lists of bytes differ. Whole words of eight bytes are compared first, and single bytes only in
+// the word in which a difference is.
 ghost use Rattle.std.specs.Prelude.{◌≡◌, ◌↔◌, ◌<◌, ◌≤◌, ◌≢◌, ◌+◌, ◌-◌, ℕ, List, length, take, drop, slice_index, IsNone, IfSome};
 ghost use Rattle.fields.specs.Differ.{HoldsDifferences, IsDiffSpan};
 
@@ -65,7 +65,8 @@ fn last_difference(a: &[u8], b: &[u8], first: usize) -> usize
     end
 }
 
-/// The first place at which the two differ, and the length from there to the last such place. `None`: they are equal.
+/// The first place at which the two differ, and the length from there to the last such place. `None`: they
+/// are equal.
 pub fn diff_span(a: &[u8], b: &[u8]) -> Option<(usize, usize)>
     requires { length a.now ≡ length b.now }
     ensures none { IsNone result ↔ (a.now ≡ b.now) }
@@ -81,6 +82,6 @@ pub fn diff_span(a: &[u8], b: &[u8]) -> Option<(usize, usize)>
 
 /// Every span that holds all differing bytes holds this one.
 pub fn a_diff_span_is_the_shortest()
-    ensures { (a b : List ℕ) (at len other other_len : ℕ) → IsDiffSpan a b at len → HoldsDifferences a b other other_len
-        → (other ≤ at) × (at + len ≤ other + other_len) }
+    ensures { (a b : List ℕ) (at len other other_len : ℕ) → IsDiffSpan a b at len
+        → HoldsDifferences a b other other_len → (other ≤ at) × (at + len ≤ other + other_len) }
 {}
