@@ -1,0 +1,4 @@
+pub mod Keeps
+pub mod Lasting
+pub mod Opens
+pub mod Rewrites

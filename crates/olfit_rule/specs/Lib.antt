@@ -1,0 +1,3 @@
+pub mod Maps
+pub mod Tree
+pub mod Rule
