@@ -2,7 +2,8 @@
 use Rattle.std.specs.Prelude.{◌≡◌, ℕ, List, Option, None, Some, is_some, slice_get, replicate}
 use Rattle.std.specs.List.{count_by}
 
--- a pool as a list with an entry for each block: the bytes of one that is out, and nothing for one that is free
+-- a pool as a list with an entry for each block: the bytes
+-- of one that is out, and nothing for one that is free
 abbrev pub Blocks : Type 0
 Blocks = List (Option (List ℕ))
 

@@ -6,4 +6,5 @@ use Rattle.block_pool.specs.Blocks.{Blocks}
 
 -- the block at this place has the bytes that were written last, and all others are as before
 abbrev pub LendsBlock : MutBor Blocks → ℕ → MutBor (List ℕ) → Fml
-LendsBlock pool block bytes = Lends the_row (Array u8 4096) pool bytes (λ w. slice_set pool.now block (Some w))
+LendsBlock pool block bytes =
+    Lends the_row (Array u8 4096) pool bytes (λ w. slice_set pool.now block (Some w))

@@ -1,5 +1,6 @@
 -- How a pool keeps its blocks: which are out, the bytes of all, and the places of those that are free.
-use Rattle.std.specs.Prelude.{◌≡◌, ◌≢◌, ℕ, ◌+◌, ◌^◌, ◌<◌, Bool, false, cond, List, [], ◌∷◌, None, Some, length, get_or}
+use Rattle.std.specs.Prelude.{◌≡◌, ◌≢◌, ℕ, ◌+◌, ◌^◌, ◌<◌, Bool, false, cond, List, [], ◌∷◌, None, Some}
+use Rattle.std.specs.Prelude.{length, get_or}
 use Rattle.std.specs.List.{count_by}
 use Rattle.block_pool.specs.Blocks.{Blocks}
 

@@ -42,7 +42,8 @@ impl Model for Pool {
 }
 
 impl Pool {
-    ghost use Rattle.std.specs.Prelude.{◌≡◌, ◌↔◌, ◌<◌, ℕ, List, Option, None, Some, Err, Result, length, replicate, slice_set, IfOk, OnErr};
+    ghost use Rattle.std.specs.Prelude.{◌≡◌, ◌↔◌, ◌<◌, ℕ, List, Option, None, Some, Err, Result, length};
+    ghost use Rattle.std.specs.Prelude.{replicate, slice_set, IfOk, OnErr};
     ghost use Rattle.std.specs.Borrow.{sem};
     ghost use Rattle.block_pool.specs.Blocks.{Holds, IsFree, used, zeros};
     ghost use Rattle.block_pool.specs.Lends.{LendsBlock};

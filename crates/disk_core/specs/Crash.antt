@@ -7,7 +7,8 @@ use Rattle.disk_core.specs.Device.{Torn}
 abbrev pub AloneWrite : ℕ → ℕ → List ℕ → List ℕ → Type 0
 AloneWrite at byte old new = (slice_index new at ≡ byte) ⊎ (slice_index new at ≡ slice_index old at)
 
--- What a crash leaves of a write: any bytes in its range, but of a single byte that one or what stood there. An image that ends before the range stays.
+-- What a crash leaves of a write: any bytes in its range, but of a single byte
+-- that one or what stood there. An image that ends before the range stays.
 pub record Tears (at : ℕ) (bytes old new : List ℕ) : Type 0 where
   pub torn : Torn at (length bytes) old new
   pub alone : (byte : ℕ) → bytes ≡ byte ∷ [] → AloneWrite at byte old new
@@ -28,8 +29,11 @@ Only bytes may_leave = (image : List ℕ) → may_leave image → image ≡ byte
 abbrev pub NothingPending : Option (List ℕ) → (List ℕ → Type 0) → Type 0
 NothingPending content may_leave = ForSome content (λ bytes. Only bytes may_leave)
 
--- Time goes on: a crash since a moment might have left what it might have left before, or what it may leave now.
-pub record Elapses (old new : ℕ) (left_old left_new : ℕ → List ℕ → Type 0) (may_leave : List ℕ → Type 0) : Type 0 where
+-- Time goes on: a crash since a moment might have left what
+-- it might have left before, or what it may leave now.
+pub record Elapses (old new : ℕ) (left_old left_new : ℕ → List ℕ → Type 0)
+    (may_leave : List ℕ → Type 0) : Type 0 where
   pub later : old ≤ new
-  pub nothing_else : (t : ℕ) (image : List ℕ) → t ≤ old → left_new t image → left_old t image ⊎ may_leave image
+  pub nothing_else : (t : ℕ) (image : List ℕ) → t ≤ old → left_new t image → left_old t image
+      ⊎ may_leave image
   pub keeps : (t : ℕ) (image : List ℕ) → t ≤ old → left_old t image → left_new t image

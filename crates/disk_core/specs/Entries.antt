@@ -1,4 +1,5 @@
--- The record of the change calls that a disk in memory keeps, in which the bytes of all writes stand one after another.
+-- The record of the change calls that a disk in memory keeps,
+-- in which the bytes of all writes stand one after another.
 use Rattle.std.specs.Prelude.{ℕ, ◌+◌, List, [], ◌∷◌, take, drop}
 use Rattle.disk_core.specs.declared.history.Entry.{Entry}
 use Rattle.disk_core.specs.declared.history.Entry.TheVariants.{Write, Attempt, Sync, SyncAttempt}
@@ -26,4 +27,5 @@ total_len (entry ∷ entries) = len_of entry + total_len entries
 -- the calls of the entries on top of earlier ones
 abbrev pub calls_of : List Entry → List ℕ → List Change → List Change
 calls_of [] bytes earlier = earlier
-calls_of (entry ∷ entries) bytes earlier = calls_of entries (drop (len_of entry) bytes) (change_of entry (take (len_of entry) bytes) ∷ earlier)
+calls_of (entry ∷ entries) bytes earlier =
+    calls_of entries (drop (len_of entry) bytes) (change_of entry (take (len_of entry) bytes) ∷ earlier)

@@ -1,11 +1,15 @@
 -- A disk in memory, whose calls fail where they are named or find too little room.
-use Rattle.std.specs.Prelude.{ℕ, ◌+◌, ◌-◌, ◌*◌, Bool, true, false, ◌&&◌, List, [], ◌∷◌, length, Option, None, Some, Result, Ok, Err, is_err, nat_le, if◌then◌else◌}
+use Rattle.std.specs.Prelude.{ℕ, ◌+◌, ◌-◌, ◌*◌, Bool, true, false, ◌&&◌, List, [], ◌∷◌, length, Option, None}
+use Rattle.std.specs.Prelude.{Some, Result, Ok, Err, is_err, nat_le, if◌then◌else◌}
 use Rattle.causes.specs.Causes.{one_more}
 use Rattle.disk_core.specs.ChangeCalls.{CallMade, WriteCall, SyncCall}
-use Rattle.disk_core.specs.History.{Change, Wrote, Tried, Synced, TriedSync, content_after, MayLeave, LeftSince}
+use Rattle.disk_core.specs.History.{Change, Wrote, Tried, Synced, TriedSync, content_after, MayLeave}
+use Rattle.disk_core.specs.History.{LeftSince}
 use Rattle.disk_core.specs.Places.{at_sync}
 
--- the bytes at first and the change calls since, of which the latest comes first, whether these are all, the room that is left, how many change calls and read calls there were since their names were given, those names, and how many calls failed
+-- the bytes at first and the change calls since, of which the latest comes first,
+-- whether these are all, the room that is left, how many change calls and read calls
+-- there were since their names were given, those names, and how many calls failed
 pub record MemoryView : Type 0 where
   pub initial : List ℕ
   pub calls : List Change
@@ -25,7 +29,8 @@ content_of d = content_after d.initial d.calls
 abbrev pub calls_made : List Change → List CallMade
 calls_made [] = []
 calls_made (Wrote at bytes ∷ earlier) = record { call = WriteCall at bytes; done = true } ∷ calls_made earlier
-calls_made (Tried at bytes size ∷ earlier) = record { call = WriteCall at bytes; done = false } ∷ calls_made earlier
+calls_made (Tried at bytes size ∷ earlier) =
+    record { call = WriteCall at bytes; done = false } ∷ calls_made earlier
 calls_made (Synced ∷ earlier) = record { call = SyncCall; done = true } ∷ calls_made earlier
 calls_made (TriedSync ∷ earlier) = record { call = SyncCall; done = false } ∷ calls_made earlier
 
@@ -47,7 +52,18 @@ CrashLeftSince d t = LeftSince d.initial t d.calls
 
 -- a disk of these bytes with so much room, of which no call is named
 abbrev pub new_disk : List ℕ → ℕ → MemoryView
-new_disk bytes room = record { initial = bytes; calls = []; whole = true; room = room; changes = 0; reads = 0; failing_changes = []; failing_reads = []; faults = 0 }
+new_disk bytes room =
+    record {
+      initial = bytes;
+      calls = [];
+      whole = true;
+      room = room;
+      changes = 0;
+      reads = 0;
+      failing_changes = [];
+      failing_reads = [];
+      faults = 0;
+    }
 
 -- the room that a change call of n bytes uses
 abbrev pub room_of : ℕ → ℕ
@@ -65,14 +81,23 @@ faults_after result faults = if is_err result then one_more faults else faults
 abbrev pub after_read : {T E : Type 0} → Result T E → MemoryView → MemoryView
 after_read result d = record d { reads = one_more d.reads; faults = faults_after result d.faults }
 
--- A change call of n bytes is counted, and its fault if it failed, and uses room. Where it found too little, the calls since aren't all from then on. All else stays.
+-- A change call of n bytes is counted, and its fault if it failed, and uses room.
+-- Where it found too little, the calls since aren't all from then on. All else stays.
 abbrev pub after_change : {T E : Type 0} → ℕ → Result T E → MemoryView → MemoryView
-after_change n result d = record d { whole = d.whole && nat_le (room_of n) d.room; room = room_after n d.room; changes = one_more d.changes; faults = faults_after result d.faults }
+after_change n result d =
+    record d {
+      whole = d.whole && nat_le (room_of n) d.room;
+      room = room_after n d.room;
+      changes = one_more d.changes;
+      faults = faults_after result d.faults;
+    }
 
 -- a write is one of the calls since, also where it failed, but not if it found too little room
 abbrev pub calls_after_write : {T E : Type 0} → ℕ → List ℕ → Result T E → MemoryView → List Change
 calls_after_write at bytes (Ok _) d = Wrote at bytes ∷ d.calls
-calls_after_write at bytes (Err _) d = if nat_le (room_of (length bytes)) d.room then Tried at bytes (length (content_of d)) ∷ d.calls else d.calls
+calls_after_write at bytes (Err _) d =
+    if nat_le (room_of (length bytes)) d.room then Tried at bytes (length (content_of d)) ∷ d.calls
+    else d.calls
 
 -- so is a sync
 abbrev pub calls_after_sync : {T E : Type 0} → Result T E → MemoryView → List Change
@@ -81,7 +106,8 @@ calls_after_sync (Err _) d = if nat_le (room_of 0) d.room then TriedSync ∷ d.c
 
 -- the disk after a write
 abbrev pub after_write : {T E : Type 0} → ℕ → List ℕ → Result T E → MemoryView → MemoryView
-after_write at bytes result d = record (after_change (length bytes) result d) { calls = calls_after_write at bytes result d }
+after_write at bytes result d =
+    record (after_change (length bytes) result d) { calls = calls_after_write at bytes result d }
 
 -- the disk after a sync
 abbrev pub after_sync : {T E : Type 0} → Result T E → MemoryView → MemoryView

@@ -8,9 +8,11 @@ pub record LeavesOnly {D : Type 0} (d : Ghosts D) (old new : D) (P : List ℕ �
   pub later : d.moment old ≤ d.moment new
   pub each : (image : List ℕ) → d.left_since new (d.moment old) image → P image
   -- for a run that began earlier
-  pub before : (t : ℕ) (image : List ℕ) → t ≤ d.moment old → d.left_since new t image → d.left_since old t image ⊎ P image
+  pub before : (t : ℕ) (image : List ℕ) → t ≤ d.moment old → d.left_since new t image
+      → d.left_since old t image ⊎ P image
 
--- The disk was only read: its bytes are the same, a crash at any moment leaves what it might have left before, and the count of faults has not fallen.
+-- The disk was only read: its bytes are the same, a crash at any moment leaves
+-- what it might have left before, and the count of faults has not fallen.
 pub record OnlyReads {D : Type 0} (d : Ghosts D) (old new : D) : Type 0 where
   pub same : d.content new ≡ d.content old
   pub none_new : NoneNew (d.may_leave old) (d.may_leave new)

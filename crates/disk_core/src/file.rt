@@ -29,8 +29,8 @@ impl Model for FileDisk {
 }
 
 impl FileDisk {
-    /// Brings to the disk what a read of the file gives, so that nothing is pending. Where that fails the file counts as
-    /// missing.
+    /// Brings to the disk what a read of the file gives, so that nothing is pending. Where that fails the
+    /// file counts as missing.
     pub fn new(file: File) -> FileDisk
         ensures { result.faults ≡ 0 }
     {
@@ -68,9 +68,9 @@ impl FileDisk {
 /// How many bytes are rewritten at once.
 const PIECE: usize = 8192;
 
-/// Writes the bytes of the file once more, and brings them to the disk. After a sync that failed in an earlier process
-/// the system takes a page for clean that never reached the disk, and gives it to each reader; written again, it is
-/// pending again.
+/// Writes the bytes of the file once more, and brings them to the disk. After a sync that failed in an
+/// earlier process the system takes a page for clean that never reached the disk, and gives it to each
+/// reader; written again, it is pending again.
 fn settle(file: &File) -> io::Result<()> {
     let size = file.metadata()?.len();
     for i in 0..size.div_ceil(PIECE as u64) {

@@ -1,6 +1,7 @@
 // Where two lists of bytes differ. Whole words of eight bytes are compared first, and single bytes only in
 // the word in which a difference is.
-ghost use Rattle.std.specs.Prelude.{◌≡◌, ◌↔◌, ◌<◌, ◌≤◌, ◌≢◌, ◌+◌, ◌-◌, ℕ, List, length, take, drop, slice_index, IsNone, IfSome};
+ghost use Rattle.std.specs.Prelude.{◌≡◌, ◌↔◌, ◌<◌, ◌≤◌, ◌≢◌, ◌+◌, ◌-◌, ℕ, List, length, take, drop};
+ghost use Rattle.std.specs.Prelude.{slice_index, IsNone, IfSome};
 ghost use Rattle.fields.specs.Differ.{HoldsDifferences, IsDiffSpan};
 
 use crate::numbers::get_u64;

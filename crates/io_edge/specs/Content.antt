@@ -1,5 +1,6 @@
 -- What a source whose content is known has given and has left, and what one pull does to it.
-use Rattle.std.specs.Prelude.{◌≡◌, ℕ, ◌<◌, ◌≤◌, List, [], ◌++◌, length, take, drop, Option, None, MatchOption, IsSomeAnd, Result, Ok, Err}
+use Rattle.std.specs.Prelude.{◌≡◌, ℕ, ◌<◌, ◌≤◌, List, [], ◌++◌, length, take, drop, Option, None, MatchOption}
+use Rattle.std.specs.Prelude.{IsSomeAnd, Result, Ok, Err}
 
 -- the bytes given so far, and those still to come
 pub record Content : Type 0 where

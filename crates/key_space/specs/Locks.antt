@@ -1,5 +1,6 @@
 -- The answer to a request for a lock.
-use Rattle.std.specs.Prelude.{◌≡◌, ℕ, ◌≤◌, min, Bool, true, false, not, ◌&&◌, ◌||◌, if◌then◌else◌, ◌==◌, nat_lt, nat_le, List, [], ◌∷◌, ◌++◌, length, map, Option, None, Some}
+use Rattle.std.specs.Prelude.{◌≡◌, ℕ, ◌≤◌, min, Bool, true, false, not, ◌&&◌, ◌||◌, if◌then◌else◌, ◌==◌}
+use Rattle.std.specs.Prelude.{nat_lt, nat_le, List, [], ◌∷◌, ◌++◌, length, map, Option, None, Some}
 use Rattle.std.specs.List.{list_any, filter, fold, Any, AllByRecursion}
 use Rattle.key_space.specs.declared.lock.Held.{Held}
 use Rattle.key_space.specs.declared.lock.Mode.{Mode}
@@ -27,11 +28,15 @@ has_same_table a b = a.name.table == b.name.table
 
 -- a lock of the asker covers the request: a range that contains it, Exclusive or in the same mode
 abbrev pub covers_ask : Held → Held → Bool
-covers_ask ask h = has_same_owner h ask && has_same_table h ask && covers h.name.range ask.name.range && (is_exclusive h.mode || not (is_exclusive ask.mode))
+covers_ask ask h =
+    has_same_owner h ask && has_same_table h ask && covers h.name.range ask.name.range
+    && (is_exclusive h.mode || not (is_exclusive ask.mode))
 
 -- a lock of another is in the way: the ranges share a key, and one of the two is Exclusive
 abbrev pub conflicts : Held → Held → Bool
-conflicts ask h = not (has_same_owner h ask) && has_same_table h ask && shares h.name.range ask.name.range && (is_exclusive h.mode || is_exclusive ask.mode)
+conflicts ask h =
+    not (has_same_owner h ask) && has_same_table h ask && shares h.name.range ask.name.range
+    && (is_exclusive h.mode || is_exclusive ask.mode)
 
 -- a lock in the way of an older transaction
 abbrev pub conflicts_older : Held → Held → Bool
@@ -60,7 +65,8 @@ abbrev pub or_else : Option ℕ → (ℕ → Verdict) → Verdict → Verdict
 or_else None because other = other
 or_else (Some holder) because other = because holder
 
--- The answer, by the first that applies: an own lock covers the request; an older transaction is in the way; another is; the asker holds 1,024 locks; else it is granted.
+-- The answer, by the first that applies: an own lock covers the request; an older
+-- transaction is in the way; another is; the asker holds 1,024 locks; else it is granted.
 abbrev pub verdict_of : List Held → Held → Verdict
 verdict_of held ask =
     if list_any (covers_ask ask) held then Granted

@@ -1,5 +1,6 @@
 -- Row operations, and what it means that they play from tables to tables.
-use Rattle.std.specs.Prelude.{◌≡◌, ℕ, zero, suc, ◌≤◌, Bool, not, ◌&&◌, ◌==◌, nat_lt, nat_le, is_some, List, [], ◌∷◌, ◌++◌, length, slice_index_or, Option}
+use Rattle.std.specs.Prelude.{◌≡◌, ℕ, zero, suc, ◌≤◌, Bool, not, ◌&&◌, ◌==◌, nat_lt, nat_le, is_some, List}
+use Rattle.std.specs.Prelude.{[], ◌∷◌, ◌++◌, length, slice_index_or, Option}
 use Rattle.std.specs.List.{filter, find}
 use Rattle.row_types.specs.declared.row.Value.{Value}
 use Rattle.row_types.specs.Slot.{IsRowOf}
@@ -29,11 +30,14 @@ row_at marks rows key = find (λ row. row_key marks row == key) rows
 
 -- the rows whose keys lie between two, both among them
 abbrev pub rows_between : List ℕ → Rows → ℕ → ℕ → Rows
-rows_between marks rows from upto = filter (λ row. nat_le from (row_key marks row) && nat_le (row_key marks row) upto) rows
+rows_between marks rows from upto =
+    filter (λ row. nat_le from (row_key marks row) && nat_le (row_key marks row) upto) rows
 
 -- the row between those with lower keys and those with higher keys
 abbrev pub with_row : List ℕ → Rows → List Value → Rows
-with_row marks rows row = filter (λ other. nat_lt (row_key marks other) (row_key marks row)) rows ++ row ∷ filter (λ other. nat_lt (row_key marks row) (row_key marks other)) rows
+with_row marks rows row =
+    filter (λ other. nat_lt (row_key marks other) (row_key marks row)) rows ++ row
+    ∷ filter (λ other. nat_lt (row_key marks row) (row_key marks other)) rows
 
 -- the rows with other keys
 abbrev pub without_key : List ℕ → Rows → ℕ → Rows
@@ -53,10 +57,13 @@ OfTable (t ∷ tables) (suc n) Fact = OfTable tables n Fact
 
 -- the answer is what the tables say, a row that is put fits, and one goes back to tables that were there
 abbrev pub AnswersAt : Tables → ℕ → RowOp → Type 0
-AnswersAt tables before (Get table key answer) = OfTable tables table (λ t. answer ≡ row_at t.def.keys t.rows key)
-AnswersAt tables before (Part table from upto answer) = OfTable tables table (λ t. answer ≡ rows_between t.def.keys t.rows from upto)
+AnswersAt tables before (Get table key answer) =
+    OfTable tables table (λ t. answer ≡ row_at t.def.keys t.rows key)
+AnswersAt tables before (Part table from upto answer) =
+    OfTable tables table (λ t. answer ≡ rows_between t.def.keys t.rows from upto)
 AnswersAt tables before (Put table row) = OfTable tables table (λ t. IsRowOf t.def.columns row)
-AnswersAt tables before (Del table key answer) = OfTable tables table (λ t. answer ≡ is_some (row_at t.def.keys t.rows key))
+AnswersAt tables before (Del table key answer) =
+    OfTable tables table (λ t. answer ≡ is_some (row_at t.def.keys t.rows key))
 AnswersAt tables before (UndoTo count) = count ≤ before
 
 -- the tables after one operation, where moments has the tables before and after each earlier one
@@ -64,14 +71,16 @@ abbrev pub tables_after : List Tables → Tables → RowOp → Tables
 tables_after moments tables (Get table key answer) = tables
 tables_after moments tables (Part table from upto answer) = tables
 tables_after moments tables (Put table row) = changed tables table (λ t. with_row t.def.keys t.rows row)
-tables_after moments tables (Del table key answer) = changed tables table (λ t. without_key t.def.keys t.rows key)
+tables_after moments tables (Del table key answer) =
+    changed tables table (λ t. without_key t.def.keys t.rows key)
 tables_after moments tables (UndoTo count) = slice_index_or moments count tables
 
 -- the operations play on from these tables, where before has the tables before each earlier operation
 abbrev pub PlaysOn : List Tables → Tables → List RowOp → Tables → Type 0
 PlaysOn before tables [] end = tables ≡ end
 PlaysOn before tables (op ∷ ops) end =
-    AnswersAt tables (length before) op × PlaysOn (before ++ tables ∷ []) (tables_after (before ++ tables ∷ []) tables op) ops end
+    AnswersAt tables (length before) op
+    × PlaysOn (before ++ tables ∷ []) (tables_after (before ++ tables ∷ []) tables op) ops end
 
 -- the operations, with their answers, play from the first tables to the second
 abbrev pub Plays : Tables → List RowOp → Tables → Type 0

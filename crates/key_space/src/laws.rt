@@ -1,5 +1,6 @@
 // What the definitions say, as the contracts of functions that do nothing.
-ghost use Rattle.std.specs.Prelude.{◌≡◌, ◌⊎◌, ◌↔◌, ◌<◌, ℤ, ◌<ℤ◌, ℕ, List, Some, None, ◌==◌, if◌then◌else◌, FitsSigned};
+ghost use Rattle.std.specs.Prelude.{◌≡◌, ◌⊎◌, ◌↔◌, ◌<◌, ℤ, ◌<ℤ◌, ℕ, List, Some, None, ◌==◌, if◌then◌else◌};
+ghost use Rattle.std.specs.Prelude.{FitsSigned};
 ghost use Rattle.std.specs.Int.{w64};
 ghost use Rattle.row_types.specs.Keys.{key_of_int, row_key};
 ghost use Rattle.row_types.specs.Tables.{Tables, AreTables, schema_of};
@@ -16,8 +17,10 @@ pub fn keys_keep_order()
 
 /// A verdict names the least session number among those that its step speaks of.
 pub fn verdict_names_the_least()
-    ensures die { (held : List Held) (ask : Held) (holder : ℕ) → verdict_of held ask ≡ Die holder → IsLeastOwner (conflicts_older ask) held holder }
-    ensures wait { (held : List Held) (ask : Held) (holder : ℕ) → verdict_of held ask ≡ Wait holder → IsLeastOwner (conflicts ask) held holder }
+    ensures die { (held : List Held) (ask : Held) (holder : ℕ) → verdict_of held ask ≡ Die holder
+        → IsLeastOwner (conflicts_older ask) held holder }
+    ensures wait { (held : List Held) (ask : Held) (holder : ℕ) → verdict_of held ask ≡ Wait holder
+        → IsLeastOwner (conflicts ask) held holder }
 {}
 
 /// Operations play from tables to one list of tables at most.
@@ -25,18 +28,22 @@ pub fn plays_once()
     ensures { (first a b : Tables) (ops : List RowOp) → Plays first ops a → Plays first ops b → a ≡ b }
 {}
 
-/// Where operations play from tables, what they lead to are tables of the same definitions: the rows fit, and their
-/// keys rise.
+/// Where operations play from tables, what they lead to are tables of the same definitions: the rows fit, and
+/// their keys rise.
 pub fn tables_stay_tables()
-    ensures tables { (first end : Tables) (ops : List RowOp) → AreTables first → Plays first ops end → AreTables end }
+    ensures tables { (first end : Tables) (ops : List RowOp) → AreTables first → Plays first ops end
+        → AreTables end }
     ensures schema { (first end : Tables) (ops : List RowOp) → AreTables first → Plays first ops end
         → schema_of end ≡ schema_of first }
 {}
 
-/// A row that was set is looked up by its key, a key that was taken away isn't found, and other keys answer as before.
+/// A row that was set is looked up by its key, a key that was
+/// taken away isn't found, and other keys answer as before.
 pub fn look_ups_follow_changes()
     ensures put { (marks : List ℕ) (rows : Rows) (row : List Value) (key : ℕ) →
-        row_at marks (with_row marks rows row) key ≡ (if row_key marks row == key then Some row else row_at marks rows key) }
+        row_at marks (with_row marks rows row) key
+        ≡ (if row_key marks row == key then Some row else row_at marks rows key) }
     ensures del { (marks : List ℕ) (rows : Rows) (taken key : ℕ) →
-        row_at marks (without_key marks rows taken) key ≡ (if taken == key then None else row_at marks rows key) }
+        row_at marks (without_key marks rows taken) key
+        ≡ (if taken == key then None else row_at marks rows key) }
 {}

@@ -2,7 +2,8 @@
 ghost use Rattle.std.specs.Prelude.{◌≡◌, ◌<◌, ◌≤◌, ◌^◌, length, min, All};
 ghost use Rattle.std.specs.List.{list_any};
 ghost use Rattle.std.specs.Option.{option_map_or};
-ghost use Rattle.key_space.specs.Locks.{IsOfKeys, covers_ask, conflicts, conflicts_older, in_the_way, least_owner, own_count, verdict_of};
+ghost use Rattle.key_space.specs.Locks.{IsOfKeys, covers_ask, conflicts, conflicts_older, in_the_way};
+ghost use Rattle.key_space.specs.Locks.{least_owner, own_count, verdict_of};
 
 use crate::Range;
 
@@ -45,8 +46,9 @@ pub enum Verdict {
 /// The most locks that a transaction may hold.
 const LOCKS: usize = 1024;
 
-/// The answer to a request where these locks are held, by the first of these that applies: an own lock covers it; a
-/// lock of an older transaction is in its way; a lock of another is; the asker holds 1,024 locks; else it is granted.
+/// The answer to a request where these locks are held, by the first of these that applies: an own lock covers
+/// it; a lock of an older transaction is in its way; a lock of
+/// another is; the asker holds 1,024 locks; else it is granted.
 pub fn answer_to(held: &[Held], ask: &Held) -> Verdict
     requires few { length held.now < 2 ^ 32 }
     requires ranges { All IsOfKeys held.now }

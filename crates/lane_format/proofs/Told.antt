@@ -11,7 +11,7 @@ pub at_ok : {T E P : Type 0} (r : Result T E) → P → OnOk r P
 at_ok (Ok x) p = p
 at_ok (Err e) p = tt
 
--- what follows from the steps that a call has done, and is told as an error where they failed
+-- what follows from the steps that a call has done, and is reported as an error where they failed
 pub at_done : {A B C E P Q R : Type 0} (S : Type 0) (fault : E) (done : Result A B) (result : Result C E) → OnOk done P → OnOk done Q → OnErr done ((result ≡ Err fault) × S) → (P → Q → R) → OnOk result R
 at_done S fault (Ok x) result p q failed follows = at_ok result (follows p q)
 at_done S fault (Err e) result p q failed follows = rw failed.0 tt

@@ -6,7 +6,8 @@ use Rattle.lane_format.specs.Lane.{IsLane, IsNotOpen}
 
 -- an open lane with these batches, or with this one behind them
 abbrev pub WithOrWithout : ℕ → ℕ → List (List ℕ) → List ℕ → List ℕ → Type 0
-WithOrWithout generation lane bodies body bytes = IsLane generation lane bodies bytes ⊎ IsLane generation lane (bodies ++ body ∷ []) bytes
+WithOrWithout generation lane bodies body bytes =
+    IsLane generation lane bodies bytes ⊎ IsLane generation lane (bodies ++ body ∷ []) bytes
 
 -- a file that isn't open, or an open lane of this generation with no batch
 abbrev pub NotOpenOrEmpty : ℕ → ℕ → List ℕ → Type 0

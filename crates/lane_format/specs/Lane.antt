@@ -1,5 +1,7 @@
--- The text of a lane file: a header, batches one after the other, and behind them a gate that isn't open; and when a file is open at all.
-use Rattle.std.specs.Prelude.{◌≡◌, ◌≢◌, ℕ, ◌+◌, ◌-◌, ◌<◌, ◌≤◌, ◌^◌, List, [], ◌∷◌, ◌++◌, length, slice_index, take, drop}
+-- The text of a lane file: a header, batches one after the other, and
+-- behind them a gate that isn't open; and when a file is open at all.
+use Rattle.std.specs.Prelude.{◌≡◌, ◌≢◌, ℕ, ◌+◌, ◌-◌, ◌<◌, ◌≤◌, ◌^◌, List, [], ◌∷◌, ◌++◌, length, slice_index}
+use Rattle.std.specs.Prelude.{take, drop}
 use Rattle.std.specs.List.{AllByRecursion, flat_map}
 use Rattle.std.specs.Int.{w16, w32, w64, to_le_bytes}
 
@@ -33,7 +35,8 @@ batch_text body = 1 ∷ to_le_bytes w32 (length body) ++ body
 abbrev pub lane_text : ℕ → ℕ → List (List ℕ) → List ℕ
 lane_text generation lane bodies = header_text generation lane ++ flat_map batch_text bodies
 
--- The file holds an open lane with these batches: the next gate is there and isn't open, and what stands behind it doesn't count.
+-- The file holds an open lane with these batches: the next gate is
+-- there and isn't open, and what stands behind it doesn't count.
 pub record IsLane (generation lane : ℕ) (bodies : List (List ℕ)) (bytes : List ℕ) : Type 0 where
   pub head : IsHead generation lane
   pub bodies_fit : AllByRecursion IsBody bodies

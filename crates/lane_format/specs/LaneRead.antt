@@ -1,5 +1,6 @@
 -- What a lane file reads as, as a whole.
-use Rattle.std.specs.Prelude.{◌≡◌, ◌≢◌, ℕ, ◌+◌, ◌%◌, ◌<◌, ◌≤◌, Bool, if◌then◌else◌, List, [], ◌∷◌, ◌++◌, length, take, drop, Option, None, Some, Result, Ok, Err}
+use Rattle.std.specs.Prelude.{◌≡◌, ◌≢◌, ℕ, ◌+◌, ◌%◌, ◌<◌, ◌≤◌, Bool, if◌then◌else◌, List, [], ◌∷◌, ◌++◌}
+use Rattle.std.specs.Prelude.{length, take, drop, Option, None, Some, Result, Ok, Err}
 use Rattle.std.specs.List.{AllByRecursion, flat_map}
 use Rattle.std.specs.Int.{w16, w64, from_le_bytes}
 use Rattle.lane_format.specs.Lane.{IsBody, IsNotOpen, IsOpen, batch_text}
@@ -43,12 +44,16 @@ placed gate (body ∷ bodies) = record { at = gate + 5; body = body } ∷ placed
 -- the first place at which an open file isn't what a lane file holds
 pub data IsDamaged (odd : Bool) (lane : ℕ) (bytes : List ℕ) (at : ℕ) : Type 0 where
   Short : length bytes < 11 → at ≡ 0 → IsDamaged odd lane bytes at
-  OtherGeneration : 11 ≤ length bytes → ¬ (IsOfFile odd (generation_in bytes)) → at ≡ 1 → IsDamaged odd lane bytes at
-  OtherLane : 11 ≤ length bytes → IsOfFile odd (generation_in bytes) → lane_in bytes ≢ lane → at ≡ 9 → IsDamaged odd lane bytes at
-  NoBatch : (bodies : List (List ℕ)) (rest : List ℕ) → HasHead odd lane bytes → HasBatches bodies rest bytes → LacksBatch rest → at ≡ 11 + length (flat_map batch_text bodies) → IsDamaged odd lane bytes at
+  OtherGeneration : 11 ≤ length bytes → ¬ (IsOfFile odd (generation_in bytes)) → at ≡ 1
+      → IsDamaged odd lane bytes at
+  OtherLane : 11 ≤ length bytes → IsOfFile odd (generation_in bytes) → lane_in bytes ≢ lane → at ≡ 9
+      → IsDamaged odd lane bytes at
+  NoBatch : (bodies : List (List ℕ)) (rest : List ℕ) → HasHead odd lane bytes → HasBatches bodies rest bytes
+      → LacksBatch rest → at ≡ 11 + length (flat_map batch_text bodies) → IsDamaged odd lane bytes at
 
 -- the file is whole: behind these batches stands a gate that isn't open, or the file ends
-pub record IsWhole (odd : Bool) (lane : ℕ) (bytes : List ℕ) (generation : ℕ) (batches : List Batch) : Type 0 where
+pub record IsWhole (odd : Bool) (lane : ℕ) (bytes : List ℕ) (generation : ℕ)
+    (batches : List Batch) : Type 0 where
   pub bodies : List (List ℕ)
   pub rest : List ℕ
   pub head : HasHead odd lane bytes
@@ -67,7 +72,8 @@ pub data LaneRead : Type 0 where
 abbrev pub lane_reads : Bool → ℕ → List ℕ → LaneRead → Type 0
 lane_reads odd lane bytes NotOpen = IsNotOpen bytes
 lane_reads odd lane bytes (DamagedAt at) = IsOpen bytes × IsDamaged odd lane bytes at
-lane_reads odd lane bytes (Holding generation batches) = IsOpen bytes × IsWhole odd lane bytes generation batches
+lane_reads odd lane bytes (Holding generation batches) =
+    IsOpen bytes × IsWhole odd lane bytes generation batches
 
 -- what a result says of the file: nothing where the disk failed or memory ran out
 abbrev pub read_as : Result (Option Segment) LaneReadFault → Option LaneRead

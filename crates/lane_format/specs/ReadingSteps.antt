@@ -20,13 +20,16 @@ pub record ReadTo (bytes : List ℕ) (batches : List Batch) (gate : ℕ) : Type 
 -- at the gate stands this batch, or none: the gate isn't open
 abbrev pub NextIs : List ℕ → ℕ → Option Batch → Type 0
 NextIs bytes gate None = IsNotOpen (drop gate bytes)
-NextIs bytes gate (Some batch) = IsBody batch.body × (drop gate bytes ≡ batch_text batch.body ++ drop (gate + 5 + length batch.body) bytes)
+NextIs bytes gate (Some batch) =
+    IsBody batch.body × (drop gate bytes ≡ batch_text batch.body ++ drop (gate + 5 + length batch.body) bytes)
 
 -- an open gate without a batch stops the reading at its place
 abbrev pub StopsAt : Option (List ℕ) → ℕ → ReadStop → Type 0
-StopsAt content gate stop = (at : ℕ) → stop ≡ Damaged at → (at ≡ gate) × ForSome content (λ bytes. LacksBatch (drop gate bytes))
+StopsAt content gate stop =
+    (at : ℕ) → stop ≡ Damaged at → (at ≡ gate) × ForSome content (λ bytes. LacksBatch (drop gate bytes))
 
--- a stop for the disk comes where exactly one call of it failed, and nothing else leaves the count other than it was
+-- a stop for the disk comes where exactly one call of it
+-- failed, and nothing else leaves the count other than it was
 abbrev pub StopHasCause : {T : Type 0} → ℕ → ℕ → Result T ReadStop → Type 0
 StopHasCause old new (Ok _) = new ≡ old
 StopHasCause old new (Err Disk) = new ≡ one_more old

@@ -38,16 +38,21 @@ pub record IsShut {D : Type 0} (d : Ghosts D) (w : LaneWriter D) (generation : �
   pub stage : stage_of w ≡ Shut generation
   pub gate : ForSome (d.content (disk_of w)) (λ bytes. 0 < length bytes)
 
--- its file, that of even generations, is an open lane of this generation with these batches, and it stands at the gate behind them
-pub record Holds {D : Type 0} (d : Ghosts D) (w : LaneWriter D) (generation : ℕ) (bodies : List (List ℕ)) : Type 0 where
+-- its file, that of even generations, is an open lane of this
+-- generation with these batches, and it stands at the gate behind them
+pub record Holds {D : Type 0} (d : Ghosts D) (w : LaneWriter D) (generation : ℕ)
+    (bodies : List (List ℕ)) : Type 0 where
   pub even : generation % 2 ≡ 0
   pub gate : ℕ
   pub stage : stage_of w ≡ Open generation gate
-  pub place : ForSome (d.content (disk_of w)) (λ bytes. gate ≡ length (lane_text generation (lane_of w) bodies))
+  pub place : ForSome (d.content (disk_of w))
+      (λ bytes. gate ≡ length (lane_text generation (lane_of w) bodies))
   pub file : ForSome (d.content (disk_of w)) (IsLane generation (lane_of w) bodies)
 
--- Its file is an open lane of this generation with these batches, and so is every file that a crash now leaves.
-pub record IsSettled {D : Type 0} (d : Ghosts D) (w : LaneWriter D) (generation : ℕ) (bodies : List (List ℕ)) : Type 0 where
+-- Its file is an open lane of this generation with these
+-- batches, and so is every file that a crash now leaves.
+pub record IsSettled {D : Type 0} (d : Ghosts D) (w : LaneWriter D) (generation : ℕ)
+    (bodies : List (List ℕ)) : Type 0 where
   pub holds : Holds d w generation bodies
   pub crash : LeavesNow d (disk_of w) (IsLane generation (lane_of w) bodies)
 
@@ -55,11 +60,14 @@ pub record IsSettled {D : Type 0} (d : Ghosts D) (w : LaneWriter D) (generation 
 abbrev pub IsNear : {D : Type 0} → LaneWriter D → Type 0
 IsNear w = (generation gate : ℕ) → stage_of w ≡ Open generation gate → gate ≤ 2 ^ 62
 
--- How a call ends: an Ok leaves the count of faults; `Disk` names its file, whose count rose by exactly one, and is kept; `Closed` comes exactly after such a fault, names the kept file and changes nothing.
-pub record KeepsFault {D T : Type 0} (d : Ghosts D) (old new : LaneWriter D) (result : Result T LaneFault) : Type 0 where
+-- How a call ends: an Ok leaves the count of faults; `Disk` names its file, whose count rose by exactly
+-- one, and is kept; `Closed` comes exactly after such a fault, names the kept file and changes nothing.
+pub record KeepsFault {D T : Type 0} (d : Ghosts D) (old new : LaneWriter D)
+    (result : Result T LaneFault) : Type 0 where
   pub lane : lane_of new ≡ lane_of old
   pub later : d.faults (disk_of old) ≤ d.faults (disk_of new)
   pub still : OnOk result (d.faults (disk_of new) ≡ d.faults (disk_of old))
-  pub disk : (file : FileName) → result ≡ Err (Disk file) → (file ≡ even_file (lane_of old)) × (d.faults (disk_of new) ≡ one_more (d.faults (disk_of old))) × (stage_of new ≡ Failed file)
+  pub disk : (file : FileName) → result ≡ Err (Disk file) → (file ≡ even_file (lane_of old))
+      × (d.faults (disk_of new) ≡ one_more (d.faults (disk_of old))) × (stage_of new ≡ Failed file)
   pub closed : (file : FileName) → (result ≡ Err (Closed file)) ↔ (stage_of old ≡ Failed file)
   pub unchanged : IsFailed old → new ≡ old

@@ -1,5 +1,7 @@
--- The 64 words of an index node: its low key, the key and number of its right neighbour, its level and the number of its entries, and sixteen places for entries of three words each.
-use Rattle.std.specs.Prelude.{◌≡◌, ℕ, ◌+◌, ◌-◌, ◌*◌, ◌/◌, ◌%◌, ◌^◌, ◌<◌, ◌==◌, nat_le, if◌then◌else◌, Option, None, Some, List, length, map, take, drop, slice_index, slice_get}
+-- The 64 words of an index node: its low key, the key and number of its right neighbour, its
+-- level and the number of its entries, and sixteen places for entries of three words each.
+use Rattle.std.specs.Prelude.{◌≡◌, ℕ, ◌+◌, ◌-◌, ◌*◌, ◌/◌, ◌%◌, ◌^◌, ◌<◌, ◌==◌, nat_le, if◌then◌else◌, Option}
+use Rattle.std.specs.Prelude.{None, Some, List, length, map, take, drop, slice_index, slice_get}
 use Rattle.std.specs.Option.{option_map}
 use Rattle.std.specs.List.{AllPairs, filter, range_with_len}
 use Rattle.olfit_nodes.specs.declared.head.Link.{Link}
@@ -14,7 +16,11 @@ Entry = ℕ × ℕ
 
 -- the entry in a place: the halves of its key, and its value or child
 abbrev pub entry_at : List ℕ → ℕ → Entry
-entry_at words place = (number_of (slice_index words (7 + 3 * place)) (slice_index words (8 + 3 * place)), slice_index words (9 + 3 * place))
+entry_at words place = (
+  number_of (slice_index words (7 + 3 * place))
+      (slice_index words (8 + 3 * place)),
+  slice_index words (9 + 3 * place),
+)
 
 -- the number of entries, which shares a word with the level
 abbrev pub count_of : List ℕ → ℕ
@@ -34,7 +40,12 @@ low_of words = number_of (slice_index words 1) (slice_index words 2)
 
 -- the right neighbour, with the key from which on keys belong to it or further right
 abbrev pub right_of : List ℕ → Option Link
-right_of words = if slice_index words 5 == 0 then None else Some record { key = number_of (slice_index words 3) (slice_index words 4); node = slice_index words 5 - 1 }
+right_of words =
+    if slice_index words 5 == 0 then None
+    else Some record {
+      key = number_of (slice_index words 3) (slice_index words 4);
+      node = slice_index words 5 - 1;
+    }
 
 -- the keys strictly rise
 abbrev pub Rises : List Entry → Type 0
@@ -46,7 +57,10 @@ place_in key entries = Rattle.std.specs.List.position (λ (e : Entry). e.0 == ke
 
 -- the value of the last entry whose key is at most this
 abbrev pub child_in : ℕ → List Entry → Option ℕ
-child_in key entries = let below = filter (λ (e : Entry). nat_le e.0 key) entries in option_map (λ (e : Entry). e.1) (slice_get below (length below - 1))
+child_in key entries =
+    let below =
+    filter (λ (e : Entry). nat_le e.0 key) entries in option_map (λ (e : Entry). e.1)
+    (slice_get below (length below - 1))
 
 -- the words that hold no entry and no number of entries are the same, and so is the level
 pub record SameFrame (old new : List ℕ) : Type 0 where

@@ -1,7 +1,9 @@
 // A node's entries.
-ghost use Rattle.std.specs.Prelude.{◌≡◌, ◌≢◌, ℕ, ◌+◌, ◌*◌, ◌/◌, ◌%◌, ◌^◌, ◌<◌, ◌≤◌, nat_le, take, drop, length, slice_index, slice_index_or};
+ghost use Rattle.std.specs.Prelude.{◌≡◌, ◌≢◌, ℕ, ◌+◌, ◌*◌, ◌/◌, ◌%◌, ◌^◌, ◌<◌, ◌≤◌, nat_le, take, drop};
+ghost use Rattle.std.specs.Prelude.{length, slice_index, slice_index_or};
 ghost use Rattle.std.specs.List.{count_by, insert, remove};
-ghost use Rattle.olfit_nodes.specs.Nodes.{Entry, entry_at, entries_of, count_of, child_in, place_in, Rises, SameFrame};
+ghost use Rattle.olfit_nodes.specs.Nodes.{Entry, entry_at, entries_of, count_of, child_in, place_in, Rises};
+ghost use Rattle.olfit_nodes.specs.Nodes.{SameFrame};
 
 use crate::head::{high_half, low_half, number};
 use arrayvec::ArrayVec;
@@ -126,8 +128,8 @@ fn cut(words: &mut [u64; 64], place: usize) -> ArrayVec<(u128, u64), 16>
     upper
 }
 
-/// Of the 17 entries of a full node and the new one in its place the node keeps the lower 8, and the upper 9 are
-/// returned. The other words and the level stay.
+/// Of the 17 entries of a full node and the new one in its place the node keeps the lower 8, and the upper 9
+/// are returned. The other words and the level stay.
 pub fn split(
     words: &mut [u64; 64],
     place: usize,

@@ -1,6 +1,8 @@
 -- The rule of the table of an index, and what each step tells.
--- The words of node i lie from i * 64 on; the word behind the last node is the number of the root. A node's word 0 is its version, which is odd while the writer changes the node.
-use Rattle.std.specs.Prelude.{◌≡◌, ◌≢◌, ℕ, ◌+◌, ◌*◌, ◌/◌, ◌%◌, ◌<◌, ◌≤◌, ◌⊎◌, List, [], ◌++◌, length, map, take, drop, slice_index, slice_set, true, false}
+-- The words of node i lie from i * 64 on; the word behind the last node is the number of
+-- the root. A node's word 0 is its version, which is odd while the writer changes the node.
+use Rattle.std.specs.Prelude.{◌≡◌, ◌≢◌, ℕ, ◌+◌, ◌*◌, ◌/◌, ◌%◌, ◌<◌, ◌≤◌, ◌⊎◌, List, [], ◌++◌, length, map}
+use Rattle.std.specs.Prelude.{take, drop, slice_index, slice_set, true, false}
 use mathlib.Core.Option.{some}
 use lib.ListN.{get_elem?}
 use Rattle.std.specs.List.{range_with_len}
@@ -13,7 +15,8 @@ use Rattle.olfit_rule.specs.declared.view.View.{View}
 use Rattle.olfit_rule.specs.declared.steps.Read.{Read}
 use Rattle.olfit_rule.specs.declared.steps.Read.TheVariants.{Whole, Again}
 use Rattle.olfit_rule.specs.Maps.{StartsWith}
-use Rattle.olfit_rule.specs.Tree.{Nodes, node_of, word_of, version, Good, Lasts, leaf_entries, levels_of, levels_with}
+use Rattle.olfit_rule.specs.Tree.{Nodes, node_of, word_of, version, Good, Lasts, leaf_entries, levels_of}
+use Rattle.olfit_rule.specs.Tree.{levels_with}
 
 -- the nodes with b in word k of node i
 abbrev pub put : Nodes → ℕ → ℕ → ℕ → Nodes
@@ -32,23 +35,27 @@ pub record Counts (nodes image : Nodes) : Type 0 where
   pub unlatched : (i : ℕ) → version nodes i % 2 ≡ 0 → node_of nodes i ≡ node_of image i
   pub older : (i : ℕ) → version image i ≤ version nodes i
 
--- from an earlier moment to a later one: versions don't fall, a node with the same version is the same, and the later changes begin with the earlier ones
+-- from an earlier moment to a later one: versions don't fall, a node with the
+-- same version is the same, and the later changes begin with the earlier ones
 pub record Later (a b : Moment) : Type 0 where
   pub count : 0 < length a.image → length a.image ≡ length b.image
   pub begins : StartsWith b.log a.log
   pub older : (i : ℕ) → i < length a.image → version a.image i ≤ version b.image i
-  pub same : (i : ℕ) → i < length a.image → version a.image i ≡ version b.image i → node_of a.image i ≡ node_of b.image i
+  pub same : (i : ℕ) → i < length a.image → version a.image i ≡ version b.image i
+      → node_of a.image i ≡ node_of b.image i
   pub lasts : Lasts a b
 
 -- what a seat knows is so: the writer's is the present moment, any other's an earlier one
-pub record Knows (nodes : Nodes) (now : Moment) (base : List Entry) (writer seat : ℕ) (v : View) : Type 0 where
+pub record Knows (nodes : Nodes) (now : Moment) (base : List Entry) (writer seat : ℕ)
+    (v : View) : Type 0 where
   pub own : v.writes ≡ true → (seat ≡ writer) × (v.words ≡ nodes) × (v.seen ≡ now)
   pub built : 0 < length v.seen.image → v.base ≡ base
   pub later : Later v.seen now
   pub told : StartsWith now.log v.told
   pub last : v.last ≤ version nodes v.node
 
--- The rule: the words are those of nodes that, each as it counts, stand for the map after the changes so far, and each seat knows what is so.
+-- The rule: the words are those of nodes that, each as it counts, stand
+-- for the map after the changes so far, and each seat knows what is so.
 pub record Kept (s : State ℕ View) : Type 0 where
   pub nodes : Nodes
   pub now : Moment
@@ -71,11 +78,26 @@ nodes_in words = map (part words) (range_with_len 0 (length words / 64))
 
 -- the moment of the opening
 abbrev pub opening_of : List ℕ → Moment
-opening_of words = record { image = nodes_in words; levels = levels_of (nodes_in words); root = slice_index words (length words / 64 * 64); log = [] }
+opening_of words =
+    record {
+      image = nodes_in words;
+      levels = levels_of (nodes_in words);
+      root = slice_index words (length words / 64 * 64);
+      log = [];
+    }
 
 -- what the writer knows at the opening
 abbrev pub opener : List ℕ → View
-opener words = record { writes = true; words = nodes_in words; base = leaf_entries (nodes_in words); seen = opening_of words; told = []; node = 0; last = 0 }
+opener words =
+    record {
+      writes = true;
+      words = nodes_in words;
+      base = leaf_entries (nodes_in words);
+      seen = opening_of words;
+      told = [];
+      node = 0;
+      last = 0;
+    }
 
 -- the writer has nothing latched
 pub record IsAtRest (v : View) : Type 0 where
@@ -103,14 +125,16 @@ pub record Moved (v w : View) : Type 0 where
   pub told : StartsWith w.seen.log v.told
   pub good : Good w.base w.seen
 
--- A load of the version of node i: the reader moves to the present moment, and an even version is the one with which the node counts.
+-- A load of the version of node i: the reader moves to the present
+-- moment, and an even version is the one with which the node counts.
 pub record Looked (i r : ℕ) (v w : View) : Type 0 where
   pub moved : Moved v w
   pub at : (w.node ≡ i) × (w.last ≡ r)
   pub found : r % 2 ≡ 0 → (version w.seen.image i ≡ r) × (length (node_of w.seen.image i) ≡ 64)
 
 abbrev pub looked : Step ℕ → Sat → ℕ → Sat → Type 0
-looked st m r m' = (m'.1 ≡ m.1) × ((i : ℕ) → st.word ≡ i * 64 → i < length m.0.seen.image → Looked i r m.0 m'.0)
+looked st m r m' =
+    (m'.1 ≡ m.1) × ((i : ℕ) → st.word ≡ i * 64 → i < length m.0.seen.image → Looked i r m.0 m'.0)
 
 -- a load of the root word: the reader moves to the present moment, and the word is the root of it
 pub record FoundRoot (r : ℕ) (v w : View) : Type 0 where
@@ -118,53 +142,82 @@ pub record FoundRoot (r : ℕ) (v w : View) : Type 0 where
   pub root : r ≡ w.seen.root
 
 abbrev pub found_root : Step ℕ → Sat → ℕ → Sat → Type 0
-found_root st m r m' = (m'.1 ≡ m.1) × (st.word ≡ length m.0.seen.image * 64 → 0 < length m.0.seen.image → FoundRoot r m.0 m'.0)
+found_root st m r m' =
+    (m'.1 ≡ m.1) × (st.word ≡ length m.0.seen.image * 64 → 0 < length m.0.seen.image → FoundRoot r m.0 m'.0)
 
--- A load of word k of the node that is read: if the version is still the one that was seen, the word is the one that was seen.
+-- A load of word k of the node that is read: if the version is
+-- still the one that was seen, the word is the one that was seen.
 pub record Peeked (k r : ℕ) (v w : View) : Type 0 where
   pub same : w ≡ record v { last = w.last }
   pub later : v.last ≤ w.last
-  pub found : version v.seen.image v.node % 2 ≡ 0 → w.last ≡ version v.seen.image v.node → r ≡ word_of v.seen.image v.node k
+  pub found : version v.seen.image v.node % 2 ≡ 0 → w.last ≡ version v.seen.image v.node
+      → r ≡ word_of v.seen.image v.node k
   pub check : k ≡ 0 → r ≡ w.last
 
 abbrev pub peeked : Step ℕ → Sat → ℕ → Sat → Type 0
 peeked st m r m' = (m'.1 ≡ m.1) × ((k : ℕ) → st.word ≡ m.0.node * 64 + k → k < 64 → Peeked k r m.0 m'.0)
 
--- the first count words of node i were read: if the version is still the one that was seen first, they are those that were seen
+-- the first count words of node i were read: if the version is
+-- still the one that was seen first, they are those that were seen
 pub record Gathered (i count : ℕ) (bits : List ℕ) (v w : View) : Type 0 where
   pub same : w ≡ record v { last = w.last }
   pub later : v.last ≤ w.last
-  pub found : version v.seen.image i % 2 ≡ 0 → w.last ≡ version v.seen.image i → v.last ≡ version v.seen.image i → (k : ℕ) → k < count → slice_index bits k ≡ word_of v.seen.image i k
+  pub found : version v.seen.image i % 2 ≡ 0 → w.last ≡ version v.seen.image i
+      → v.last ≡ version v.seen.image i → (k : ℕ) → k < count → slice_index bits k ≡ word_of v.seen.image i k
 
 -- the writer loads a word as it left it, and what it was told begins its changes
 abbrev pub own_read : Step ℕ → Sat → ℕ → Sat → Type 0
-own_read st m r m' = (m' ≡ m) × ((i k : ℕ) → i < length m.0.words → st.word ≡ i * 64 + k → k < 64 → r ≡ word_of m.0.words i k) × (st.word ≡ length m.0.words * 64 → r ≡ m.0.seen.root) × StartsWith m.0.seen.log m.0.told
+own_read st m r m' =
+    (m' ≡ m) × ((i k : ℕ) → i < length m.0.words → st.word ≡ i * 64 + k → k < 64 → r ≡ word_of m.0.words i k)
+    × (st.word ≡ length m.0.words * 64 → r ≡ m.0.seen.root) × StartsWith m.0.seen.log m.0.told
 
 -- the writer stores a word
 abbrev pub wrote : Step ℕ → Sat → ℕ → Sat → Type 0
-wrote st m r m' = (m'.1 ≡ m.1) × ((i k : ℕ) → st.word ≡ i * 64 + k → k < 64 → m'.0 ≡ record m.0 { words = put m.0.words i k st.first })
+wrote st m r m' =
+    (m'.1 ≡ m.1)
+    × ((i k : ℕ) → st.word ≡ i * 64 + k → k < 64 → m'.0 ≡ record m.0 { words = put m.0.words i k st.first })
 
 -- the moment from which on node i counts with these words
 abbrev pub after_change : ℕ → List ℕ → List Change → Moment → Moment
-after_change i words changes t = record { image = slice_set t.image i words; levels = levels_with t.levels words; root = t.root; log = t.log ++ changes }
+after_change i words changes t =
+    record {
+      image = slice_set t.image i words;
+      levels = levels_with t.levels words;
+      root = t.root;
+      log = t.log ++ changes;
+    }
 
 -- what the writer knows once it has unlatched node i with the version b
 abbrev pub after_end : ℕ → ℕ → List Change → View → View
-after_end i b changes v = record v { words = put v.words i 0 b; seen = after_change i (slice_set (node_of v.words i) 0 b) changes v.seen }
+after_end i b changes v =
+    record v {
+      words = put v.words i 0 b;
+      seen = after_change i (slice_set (node_of v.words i) 0 b) changes v.seen;
+    }
 
 abbrev pub ended : List Change → Step ℕ → Sat → ℕ → Sat → Type 0
-ended changes st m r m' = (m'.1 ≡ m.1) × ((i : ℕ) → st.word ≡ i * 64 → m'.0 ≡ after_end i st.first changes m.0)
+ended changes st m r m' =
+    (m'.1 ≡ m.1) × ((i : ℕ) → st.word ≡ i * 64 → m'.0 ≡ after_end i st.first changes m.0)
 
 -- the moment from which on this node is the root
 abbrev pub after_root : ℕ → Moment → Moment
-after_root root t = record { image = t.image; levels = slice_set t.levels root (level_of (node_of t.image root) + 1); root = root; log = t.log }
+after_root root t =
+    record {
+      image = t.image;
+      levels = slice_set t.levels root (level_of (node_of t.image root) + 1);
+      root = root;
+      log = t.log;
+    }
 
 abbrev pub stored_root : Step ℕ → Sat → ℕ → Sat → Type 0
-stored_root st m r m' = (m'.1 ≡ m.1) × (st.word ≡ length m.0.words * 64 → m'.0 ≡ record m.0 { seen = after_root st.first m.0.seen })
+stored_root st m r m' =
+    (m'.1 ≡ m.1)
+    × (st.word ≡ length m.0.words * 64 → m'.0 ≡ record m.0 { seen = after_root st.first m.0.seen })
 
 -- what a new reader knows
 abbrev pub reader_of : View → View
-reader_of v = record { writes = false; words = []; base = v.base; seen = v.seen; told = v.told; node = 0; last = 0 }
+reader_of v =
+    record { writes = false; words = []; base = v.base; seen = v.seen; told = v.told; node = 0; last = 0 }
 
 abbrev pub no_moment : Moment
 no_moment = record { image = []; levels = []; root = 0; log = [] }
@@ -201,7 +254,9 @@ pub record CanRead (node : ℕ) (v : View) : Type 0 where
 
 -- the node was latched, or its version changed while it was read
 abbrev pub IsAgain : ℕ → ℕ → ℕ → View → Type 0
-IsAgain i first second v = (v.node ≡ i) × (v.last ≡ second) × (((first % 2 ≡ 1) × (second ≡ first)) ⊎ ((first ≢ second) × (version v.seen.image i ≡ first)))
+IsAgain i first second v =
+    (v.node ≡ i) × (v.last ≡ second)
+    × (((first % 2 ≡ 1) × (second ≡ first)) ⊎ ((first ≢ second) × (version v.seen.image i ≡ first)))
 
 -- the words are those that the node had at the moment that was seen, or the node is to be read again
 abbrev pub IsRead : ℕ → List ℕ → Read → View → Type 0
@@ -218,7 +273,11 @@ rewritten i words changes t = after_change i (renewed t.image i words) changes t
 
 -- what the writer knows after it has replaced a node's words
 abbrev pub after_rewrite : ℕ → List ℕ → List Change → View → View
-after_rewrite i words changes v = record v { words = slice_set v.seen.image i (renewed v.seen.image i words); seen = rewritten i words changes v.seen }
+after_rewrite i words changes v =
+    record v {
+      words = slice_set v.seen.image i (renewed v.seen.image i words);
+      seen = rewritten i words changes v.seen;
+    }
 
 -- the first k words of the latched node i are those of ws
 pub record Partly (i k : ℕ) (ws : List ℕ) (v w : View) : Type 0 where

@@ -1,6 +1,8 @@
 -- What the nodes of an index are at one moment, and when they stand for a map.
--- A link leads to a node where the root word, a right link or an entry of an inner node names it. Each level is a chain of nodes from the one with the low key 0 along the right links.
-use Rattle.std.specs.Prelude.{◌≡◌, ℕ, ◌+◌, ◌<◌, ◌≤◌, ◌==◌, if◌then◌else◌, Option, None, Some, IfSome, List, [], ◌∷◌, length, map, slice_index, slice_get, slice_index_or, slice_set}
+-- A link leads to a node where the root word, a right link or an entry of an inner node names
+-- it. Each level is a chain of nodes from the one with the low key 0 along the right links.
+use Rattle.std.specs.Prelude.{◌≡◌, ℕ, ◌+◌, ◌<◌, ◌≤◌, ◌==◌, if◌then◌else◌, Option, None, Some, IfSome, List}
+use Rattle.std.specs.Prelude.{[], ◌∷◌, length, map, slice_index, slice_get, slice_index_or, slice_set}
 use Rattle.std.specs.Option.{ForSome}
 use Rattle.std.specs.List.{All, flat_map}
 use Rattle.olfit_nodes.specs.declared.head.Link.{Link}
@@ -34,7 +36,8 @@ pub record Covers (t : Moment) (i key : ℕ) : Type 0 where
   pub above : low t i ≤ key
   pub below : ForSome (right_of (node_of t.image i)) (λ (link : Link). key < link.key)
 
--- an inner node: its first entry has its low key, and each entry leads to a node one level below with the entry's key as low key
+-- an inner node: its first entry has its low key, and each entry
+-- leads to a node one level below with the entry's key as low key
 pub record IsInner (t : Moment) (level i : ℕ) (entries : List Entry) : Type 0 where
   pub first : IfSome (slice_get entries 0) (λ (e : Entry). e.0 ≡ low t i)
   pub some : 0 < length entries
@@ -46,9 +49,11 @@ pub record IsNode (base : List Entry) (t : Moment) (level i : ℕ) : Type 0 wher
   pub few : count_of (node_of t.image i) ≤ 16
   pub rises : Rises (entries_of (node_of t.image i))
   pub inside : All (λ (e : Entry). Covers t i e.0) (entries_of (node_of t.image i))
-  pub right : ForSome (right_of (node_of t.image i)) (λ (link : Link). IsAt t level link.node × (low t link.node ≡ link.key) × (low t i < link.key))
+  pub right : ForSome (right_of (node_of t.image i))
+      (λ (link : Link). IsAt t level link.node × (low t link.node ≡ link.key) × (low t i < link.key))
   -- a leaf says of each key that belongs into it what the map says
-  pub leaf : level ≡ 0 → (key : ℕ) → Covers t i key → map_of (entries_of (node_of t.image i)) key ≡ map_after (map_of base) t.log key
+  pub leaf : level ≡ 0 → (key : ℕ) → Covers t i key
+      → map_of (entries_of (node_of t.image i)) key ≡ map_after (map_of base) t.log key
   pub inner : (below : ℕ) → level ≡ below + 1 → IsInner t below i (entries_of (node_of t.image i))
 
 -- the nodes stand for the map after the changes so far

@@ -1,8 +1,8 @@
 //! The protocol of an index with one writer and readers that take no latch.
 //!
-//! A reader loads a node's version, its words, and its version again: where both are the same even number, the words
-//! are those that the node had at one moment. The writer makes a version odd before it changes a word of the node, and
-//! the next even number afterwards.
+//! A reader loads a node's version, its words, and its version again: where both are the same even number,
+//! the words are those that the node had at one moment. The writer makes a version odd before it changes a
+//! word of the node, and the next even number afterwards.
 #![tactic(auto)]
 
 mod open;

@@ -9,11 +9,12 @@ use std::alloc::{AllocError, Global};
 /// The words of an index and their memory.
 pub type Memory = Table<u64, View, Vec<u64>, Protocol, Global>;
 
-/// An index with these words, and its writer. The words are those of the nodes, one node after the other, and behind
-/// them the number of the root.
+/// An index with these words, and its writer. The words are those of the nodes, one node after the other, and
+/// behind them the number of the root.
 pub fn opened(alloc: Global, words: &Vec<u64>) -> Result<(Memory, Hand), AllocError>
     requires { CanOpen words.now.items }
-    ensures table { IfOk result (λ t. (t.1.table_id ≡ t.0.shared.table_id) × (t.0.shared.table_id.words ≡ length words.now.items)) }
+    ensures table { IfOk result
+        (λ t. (t.1.table_id ≡ t.0.shared.table_id) × (t.0.shared.table_id.words ≡ length words.now.items)) }
     ensures writer { IfOk result (λ t. t.1.me ≡ (opener words.now.items, [])) }
 {
     Table::of_words(alloc, words.as_slice(), words)

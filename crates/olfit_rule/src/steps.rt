@@ -60,7 +60,8 @@ pub fn read_node(shared: &Words, me: &mut Hand, node: usize, into: &mut [u64; 64
 /// Where a reader begins: the number of the root.
 pub fn find_root(shared: &Words, me: &mut Hand, nodes: usize) -> u64
     requires own { (me.old.table_id ≡ shared.now.table_id) × (me.old.me.0.writes ≡ false) }
-    requires sized { (length me.old.me.0.seen.image ≡ nodes) × (0 < nodes) × (nodes < 2 ^ 32) × (shared.now.table_id.words ≡ nodes * 64 + 1) }
+    requires sized { (length me.old.me.0.seen.image ≡ nodes) × (0 < nodes) × (nodes < 2 ^ 32)
+        × (shared.now.table_id.words ≡ nodes * 64 + 1) }
     ensures seat { Follows me.old me.new }
     ensures good { Good me.new.me.0.base me.new.me.0.seen }
     ensures root { result ≡ me.new.me.0.seen.root }
@@ -72,14 +73,16 @@ pub fn find_root(shared: &Words, me: &mut Hand, nodes: usize) -> u64
 pub fn reader(shared: &Words, me: &mut Hand) -> Hand
     requires own { (me.old.table_id ≡ shared.now.table_id) × (0 < shared.now.table_id.words) }
     ensures same { IsSame me.old me.new × (me.new.me.0 ≡ me.old.me.0) }
-    ensures new { (result.table_id ≡ me.old.table_id) × (result.me.1 ≡ []) × (result.me.0 ≡ reader_of me.old.me.0) }
+    ensures new { (result.table_id ≡ me.old.table_id) × (result.me.1 ≡ [])
+        × (result.me.0 ≡ reader_of me.old.me.0) }
 {
     shared.split_seat::<Reads>(me)
 }
 
 /// The reader is told of all changes so far.
 pub fn meet(shared: &Words, writer: &mut Hand, me: &mut Hand)
-    requires own { (writer.old.table_id ≡ shared.now.table_id) × (me.old.table_id ≡ shared.now.table_id) × (0 < shared.now.table_id.words) }
+    requires own { (writer.old.table_id ≡ shared.now.table_id) × (me.old.table_id ≡ shared.now.table_id)
+        × (0 < shared.now.table_id.words) }
     ensures writer { IsSame writer.old writer.new × (writer.new.me.0 ≡ writer.old.me.0) }
     ensures me { IsSame me.old me.new × (me.new.me.0 ≡ informed me.old.me.0 writer.old.me.0) }
 {
@@ -89,7 +92,8 @@ pub fn meet(shared: &Words, writer: &mut Hand, me: &mut Hand)
 
 /// The writer learns that all which the reader has seen are first changes of its own.
 pub fn agree(shared: &Words, writer: &mut Hand, me: &mut Hand)
-    requires own { (writer.old.table_id ≡ shared.now.table_id) × (me.old.table_id ≡ shared.now.table_id) × (writer.old.me.0.writes ≡ true) }
+    requires own { (writer.old.table_id ≡ shared.now.table_id) × (me.old.table_id ≡ shared.now.table_id)
+        × (writer.old.me.0.writes ≡ true) }
     requires inside { (64 ≤ shared.now.table_id.words) × (0 < length writer.old.me.0.words) }
     ensures writer { IsSame writer.old writer.new × (writer.new.me.0 ≡ informed writer.old.me.0 me.old.me.0) }
     ensures me { IsSame me.old me.new × (me.new.me.0 ≡ me.old.me.0) }

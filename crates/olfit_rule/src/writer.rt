@@ -1,7 +1,8 @@
 //! The steps of the writer.
 ghost use Rattle.std.specs.Prelude.{◌≡◌, ℕ, ◌+◌, ◌*◌, ◌^◌, ◌%◌, ◌<◌, ◌≤◌, ◌++◌, length, true};
 ghost use Rattle.olfit_rule.specs.Tree.{node_of, word_of, version, Good, Lasts};
-ghost use Rattle.olfit_rule.specs.Rule.{IsSame, IsAtRest, put, after_end, after_root, after_rewrite, rewritten};
+ghost use Rattle.olfit_rule.specs.Rule.{IsSame, IsAtRest, put, after_end, after_root, after_rewrite};
+ghost use Rattle.olfit_rule.specs.Rule.{rewritten};
 
 use crate::plays::{Noted, Own, StoreRoot, Unlatch, Write};
 use crate::view::{Hand, Words};
@@ -9,7 +10,8 @@ use crate::view::{Hand, Words};
 /// A word as the writer left it.
 fn own_word(shared: &Words, me: &mut Hand, node: usize, word: usize) -> u64
     requires own { (me.old.table_id ≡ shared.now.table_id) × (me.old.me.0.writes ≡ true) }
-    requires inside { (node * 64 + 64 ≤ shared.now.table_id.words) × (node < 2 ^ 32) × (word < 64) × (node < length me.old.me.0.words) }
+    requires inside { (node * 64 + 64 ≤ shared.now.table_id.words) × (node < 2 ^ 32) × (word < 64)
+        × (node < length me.old.me.0.words) }
     ensures same { IsSame me.old me.new × (me.new.me.0 ≡ me.old.me.0) }
     ensures word { result ≡ word_of me.old.me.0.words node word }
 {
@@ -19,8 +21,10 @@ fn own_word(shared: &Words, me: &mut Hand, node: usize, word: usize) -> u64
 /// Stores a word of a node that is latched then.
 fn write_word(shared: &Words, me: &mut Hand, node: usize, word: usize, new: u64)
     requires own { (me.old.table_id ≡ shared.now.table_id) × (me.old.me.0.writes ≡ true) }
-    requires inside { (node * 64 + 64 ≤ shared.now.table_id.words) × (node < 2 ^ 32) × (word < 64) × (node < length me.old.me.0.words) }
-    requires latched { (version me.old.me.0.words node ≤ version (put me.old.me.0.words node word new) node) × (version (put me.old.me.0.words node word new) node % 2 ≡ 1) }
+    requires inside { (node * 64 + 64 ≤ shared.now.table_id.words) × (node < 2 ^ 32) × (word < 64)
+        × (node < length me.old.me.0.words) }
+    requires latched { (version me.old.me.0.words node ≤ version (put me.old.me.0.words node word new) node)
+        × (version (put me.old.me.0.words node word new) node % 2 ≡ 1) }
     ensures same { IsSame me.old me.new }
     ensures view { me.new.me.0 ≡ record me.old.me.0 { words = put me.old.me.0.words node word new } }
 {
@@ -30,7 +34,8 @@ fn write_word(shared: &Words, me: &mut Hand, node: usize, word: usize, new: u64)
 /// Stores the version that ends the change of a node.
 fn end_change<C: Noted>(shared: &Words, me: &mut Hand, node: usize, new: u64)
     requires own { (me.old.table_id ≡ shared.now.table_id) × (me.old.me.0.writes ≡ true) }
-    requires inside { (node * 64 + 64 ≤ shared.now.table_id.words) × (node < 2 ^ 32) × (node < length me.old.me.0.words) }
+    requires inside { (node * 64 + 64 ≤ shared.now.table_id.words) × (node < 2 ^ 32)
+        × (node < length me.old.me.0.words) }
     requires version { version me.old.me.0.words node < new }
     requires good { Good me.old.me.0.base (after_end node new C.changes me.old.me.0).seen }
     requires lasts { Lasts me.old.me.0.seen (after_end node new C.changes me.old.me.0).seen }
@@ -43,7 +48,8 @@ fn end_change<C: Noted>(shared: &Words, me: &mut Hand, node: usize, new: u64)
 /// The words of a node.
 pub fn own_node(shared: &Words, me: &mut Hand, node: usize) -> [u64; 64]
     requires own { (me.old.table_id ≡ shared.now.table_id) × IsAtRest me.old.me.0 }
-    requires inside { (node * 64 + 64 ≤ shared.now.table_id.words) × (node < 2 ^ 32) × (node < length me.old.me.0.seen.image) }
+    requires inside { (node * 64 + 64 ≤ shared.now.table_id.words) × (node < 2 ^ 32)
+        × (node < length me.old.me.0.seen.image) }
     ensures same { IsSame me.old me.new × (me.new.me.0 ≡ me.old.me.0) }
     ensures words { result ≡ node_of me.old.me.0.seen.image node }
 {
@@ -54,11 +60,12 @@ pub fn own_node(shared: &Words, me: &mut Hand, node: usize) -> [u64; 64]
     words
 }
 
-/// Replaces the words of a node but for its version: latches it, stores them, and unlatches it with the next even
-/// version, which makes the changes `C`.
+/// Replaces the words of a node but for its version: latches it, stores them, and unlatches it with the next
+/// even version, which makes the changes `C`.
 pub fn rewrite<C: Noted>(shared: &Words, me: &mut Hand, node: usize, words: &[u64; 64])
     requires own { (me.old.table_id ≡ shared.now.table_id) × IsAtRest me.old.me.0 }
-    requires inside { (node * 64 + 64 ≤ shared.now.table_id.words) × (node < 2 ^ 32) × (node < length me.old.me.0.seen.image) }
+    requires inside { (node * 64 + 64 ≤ shared.now.table_id.words) × (node < 2 ^ 32)
+        × (node < length me.old.me.0.seen.image) }
     requires version { version me.old.me.0.seen.image node + 2 < 2 ^ 64 }
     requires good { Good me.old.me.0.base (rewritten node words.now C.changes me.old.me.0.seen) }
     requires lasts { Lasts me.old.me.0.seen (rewritten node words.now C.changes me.old.me.0.seen) }
@@ -78,7 +85,8 @@ pub fn rewrite<C: Noted>(shared: &Words, me: &mut Hand, node: usize, words: &[u6
 /// The number of the root.
 pub fn own_root(shared: &Words, me: &mut Hand, nodes: usize) -> u64
     requires own { (me.old.table_id ≡ shared.now.table_id) × (me.old.me.0.writes ≡ true) }
-    requires sized { (length me.old.me.0.words ≡ nodes) × (nodes < 2 ^ 32) × (shared.now.table_id.words ≡ nodes * 64 + 1) }
+    requires sized { (length me.old.me.0.words ≡ nodes) × (nodes < 2 ^ 32)
+        × (shared.now.table_id.words ≡ nodes * 64 + 1) }
     ensures same { IsSame me.old me.new × (me.new.me.0 ≡ me.old.me.0) }
     ensures root { result ≡ me.old.me.0.seen.root }
 {
@@ -88,7 +96,8 @@ pub fn own_root(shared: &Words, me: &mut Hand, nodes: usize) -> u64
 /// Makes a node the root.
 pub fn store_root(shared: &Words, me: &mut Hand, nodes: usize, root: u64)
     requires own { (me.old.table_id ≡ shared.now.table_id) × (me.old.me.0.writes ≡ true) }
-    requires sized { (length me.old.me.0.words ≡ nodes) × (0 < nodes) × (nodes < 2 ^ 32) × (shared.now.table_id.words ≡ nodes * 64 + 1) }
+    requires sized { (length me.old.me.0.words ≡ nodes) × (0 < nodes) × (nodes < 2 ^ 32)
+        × (shared.now.table_id.words ≡ nodes * 64 + 1) }
     requires good { Good me.old.me.0.base (after_root root me.old.me.0.seen) }
     requires lasts { Lasts me.old.me.0.seen (after_root root me.old.me.0.seen) }
     ensures same { IsSame me.old me.new }

@@ -43,8 +43,8 @@ fn run(rt: &HostRuntime, sink: &mut StdSink) -> Result<u8, OutOfMemory> {
     Ok(ended.status)
 }
 
-/// Takes the numbers of standard streams that are closed, so that no file of a database gets one. Reading there finds
-/// the end, and writing fails. One that can't be held is met again by `open_or_make`.
+/// Takes the numbers of standard streams that are closed, so that no file of a database gets one. Reading
+/// there finds the end, and writing fails. One that can't be held is met again by `open_or_make`.
 fn hold_streams(rt: &HostRuntime) -> [Option<File>; 3] {
     let hold = || File::open(rt, "/dev/null").ok();
     [hold(), hold(), hold()]
@@ -101,8 +101,8 @@ fn open_log(rt: &HostRuntime, words: &[Word]) -> Result<FileDisk, OutOfMemory> {
     })
 }
 
-/// Opens a file, or makes it, for this process alone, and has its folder keep it. The folder comes first: where it gets
-/// a number of a standard stream, that number couldn't be held, and nothing is made.
+/// Opens a file, or makes it, for this process alone, and has its folder keep it. The folder comes first:
+/// where it gets a number of a standard stream, that number couldn't be held, and nothing is made.
 fn open_or_make(rt: &HostRuntime, folder: &str, path: &str) -> io::Result<File> {
     let folder = File::open(rt, folder)?;
     if folder.as_raw_fd() <= LAST_STREAM {

@@ -1,5 +1,6 @@
 -- The key of a row.
-use Rattle.std.specs.Prelude.{ℕ, suc, ◌+◌, ◌-◌, ◌^◌, ℤ, pos, negsuc, List, [], ◌∷◌, slice_get, Option, None, Some}
+use Rattle.std.specs.Prelude.{ℕ, suc, ◌+◌, ◌-◌, ◌^◌, ℤ, pos, negsuc, List, [], ◌∷◌, slice_get, Option, None}
+use Rattle.std.specs.Prelude.{Some}
 use Rattle.row_types.specs.declared.row.Value.{Value}
 use Rattle.row_types.specs.declared.row.Value.TheVariants as value
 

@@ -1,5 +1,6 @@
 -- What the bytes of a slot say, where they have no fault.
-use Rattle.std.specs.Prelude.{◌≡◌, ◌⊎◌, ℕ, if◌then◌else◌, ◌==◌, List, [], ◌∷◌, take, drop, Option, None, Some, Result, Ok, Err}
+use Rattle.std.specs.Prelude.{◌≡◌, ◌⊎◌, ℕ, if◌then◌else◌, ◌==◌, List, [], ◌∷◌, take, drop, Option, None, Some}
+use Rattle.std.specs.Prelude.{Result, Ok, Err}
 use Rattle.std.specs.Int.{w16, w64, cast_signed, from_le_bytes}
 use Rattle.row_types.specs.declared.definition.Kind.{Kind}
 use Rattle.row_types.specs.declared.definition.Kind.TheVariants as kind
@@ -18,7 +19,8 @@ cell_value (kind.Text limit) bytes = value.Text (take (from_le_bytes w16 (take 2
 -- the values of columns that stand one after another
 abbrev pub cells_values : List Column → List ℕ → List Value
 cells_values [] bytes = []
-cells_values (c ∷ columns) bytes = cell_value c.kind (take (width c.kind) bytes) ∷ cells_values columns (drop (width c.kind) bytes)
+cells_values (c ∷ columns) bytes =
+    cell_value c.kind (take (width c.kind) bytes) ∷ cells_values columns (drop (width c.kind) bytes)
 
 -- what a slot without a fault holds
 abbrev pub slot_value : List Column → List ℕ → Option (List Value)
@@ -35,5 +37,7 @@ abbrev pub read_slot : List Column → List ℕ → Result (Option (List Value))
 read_slot columns slot = unless_fault (slot_fault columns slot) (slot_value columns slot)
 
 -- the answer is the one that is due, but for a row that there was no memory for
-abbrev pub IsUnlessMemory : Result (Option (List Value)) SlotFault → Result (Option (List Value)) SlotFault → Type 0
-IsUnlessMemory result due = (result ≡ due) ⊎ ((result ≡ Err OutOfMemory) × ((row : List Value) × (due ≡ Ok (Some row))))
+abbrev pub IsUnlessMemory : Result (Option (List Value)) SlotFault → Result (Option (List Value)) SlotFault
+    → Type 0
+IsUnlessMemory result due =
+    (result ≡ due) ⊎ ((result ≡ Err OutOfMemory) × ((row : List Value) × (due ≡ Ok (Some row))))

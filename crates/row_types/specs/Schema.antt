@@ -1,5 +1,6 @@
 -- Schemas: which definitions of tables are accepted, and the tables and columns that a name is.
-use Rattle.std.specs.Prelude.{◌≡◌, ℕ, ◌+◌, ◌≤◌, Bool, true, false, not, if◌then◌else◌, nat_lt, nat_le, List, [], ◌∷◌, ◌++◌, length, slice_get, Option, None, Some, Result, Ok, Err}
+use Rattle.std.specs.Prelude.{◌≡◌, ℕ, ◌+◌, ◌≤◌, Bool, true, false, not, if◌then◌else◌, nat_lt, nat_le, List}
+use Rattle.std.specs.Prelude.{[], ◌∷◌, ◌++◌, length, slice_get, Option, None, Some, Result, Ok, Err}
 use Rattle.std.specs.Option.{option_or, option_map}
 use Rattle.std.specs.List.{list_any, position_from, AllByRecursion}
 use Rattle.std.specs.Str.{bytes_eq}
@@ -8,7 +9,8 @@ use Rattle.row_types.specs.declared.definition.Kind.TheVariants as kind
 use Rattle.row_types.specs.declared.definition.Column.{Column}
 use Rattle.row_types.specs.declared.definition.TableDef.{TableDef}
 use Rattle.row_types.specs.declared.fault.SchemaFault.{SchemaFault}
-use Rattle.row_types.specs.declared.fault.SchemaFault.TheVariants.{TableExists, Tables, Columns, SameName, NoKey, TooWide}
+use Rattle.row_types.specs.declared.fault.SchemaFault.TheVariants.{TableExists, Tables, Columns, SameName}
+use Rattle.row_types.specs.declared.fault.SchemaFault.TheVariants.{NoKey, TooWide}
 use Rattle.row_types.specs.Text.{IsName}
 use Rattle.row_types.specs.Slot.{slot_len}
 
@@ -31,7 +33,8 @@ has_column columns name = list_any (λ c. bytes_eq c.name name) columns
 -- the number of the first column whose name a column before it has, where the columns begin with number n
 abbrev pub doubled_from : ℕ → List Column → List Column → Option ℕ
 doubled_from n before [] = None
-doubled_from n before (c ∷ columns) = if has_column before c.name then Some n else doubled_from (n + 1) (before ++ c ∷ []) columns
+doubled_from n before (c ∷ columns) =
+    if has_column before c.name then Some n else doubled_from (n + 1) (before ++ c ∷ []) columns
 
 -- a column of this kind holds whole numbers
 abbrev pub is_int : Kind → Bool

@@ -1,5 +1,6 @@
 -- What the front of some bytes is read as, with the bytes behind it.
-use Rattle.std.specs.Prelude.{◌≡◌, ℕ, zero, suc, Bool, ◌&&◌, if◌then◌else◌, ◌==◌, nat_lt, nat_le, is_none, List, [], ◌∷◌, ◌++◌, length, take, drop, Option, None, Some, Result, Ok, Err}
+use Rattle.std.specs.Prelude.{◌≡◌, ℕ, zero, suc, Bool, ◌&&◌, if◌then◌else◌, ◌==◌, nat_lt, nat_le, is_none}
+use Rattle.std.specs.Prelude.{List, [], ◌∷◌, ◌++◌, length, take, drop, Option, None, Some, Result, Ok, Err}
 use Rattle.std.specs.Str.{is_utf8}
 use Rattle.std.specs.Int.{w16, from_le_bytes}
 use Rattle.row_types.specs.declared.definition.Kind.{Kind}
@@ -39,11 +40,14 @@ is_name bytes = is_utf8 bytes && (nat_le 1 (length bytes) && nat_le (length byte
 unfoldable pub name_at : List ℕ → Option (List ℕ × List ℕ)
 name_at bytes = do
   n ← byte_at bytes
-  if nat_lt (length n.1) n.0 then None else (if is_name (take n.0 n.1) then Some (take n.0 n.1, drop n.0 n.1) else None)
+  if nat_lt (length n.1) n.0 then None
+      else (if is_name (take n.0 n.1) then Some (take n.0 n.1, drop n.0 n.1) else None)
 
 -- the limit of a text, in two bytes
 abbrev pub limit_at : List ℕ → Option (Kind × List ℕ)
-limit_at bytes = if nat_lt (length bytes) 2 then None else Some (kind.Text (from_le_bytes w16 (take 2 bytes)), drop 2 bytes)
+limit_at bytes =
+    if nat_lt (length bytes) 2 then None
+    else Some (kind.Text (from_le_bytes w16 (take 2 bytes)), drop 2 bytes)
 
 -- a kind: 1 for whole numbers; 2 and the limit for texts
 unfoldable pub kind_at : List ℕ → Option (Kind × List ℕ)

@@ -22,7 +22,8 @@ column_text c = name_text c.name ++ kind_text c.kind
 
 -- the name, how many columns, the number of the key column, and the columns
 abbrev pub table_text : TableDef → List ℕ
-table_text def = name_text def.name ++ (length def.columns ∷ slice_index def.keys 0 ∷ flat_map column_text def.columns)
+table_text def =
+    name_text def.name ++ (length def.columns ∷ slice_index def.keys 0 ∷ flat_map column_text def.columns)
 
 -- how many tables, and the tables
 abbrev pub schema_text : List TableDef → List ℕ

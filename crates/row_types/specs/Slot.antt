@@ -1,5 +1,6 @@
 -- The text of a slot: how a row, or no row, stands in the bytes that a table keeps for it.
-use Rattle.std.specs.Prelude.{ℕ, ◌+◌, ◌-◌, ◌≤◌, max, not, if◌then◌else◌, ◌==◌, nat_lt, List, [], ◌∷◌, ◌++◌, length, take, drop, replicate, Option, None, Some, IsUtf8, FitsSigned}
+use Rattle.std.specs.Prelude.{ℕ, ◌+◌, ◌-◌, ◌≤◌, max, not, if◌then◌else◌, ◌==◌, nat_lt, List, [], ◌∷◌, ◌++◌}
+use Rattle.std.specs.Prelude.{length, take, drop, replicate, Option, None, Some, IsUtf8, FitsSigned}
 use Rattle.std.specs.Str.{is_utf8}
 use Rattle.std.specs.Option.{option_or}
 use Rattle.std.specs.List.{sum_by, position_from}
@@ -66,7 +67,8 @@ IsRowOf (c ∷ columns) [] = ⊥
 abbrev pub first_not_zero : ℕ → List ℕ → Option ℕ
 first_not_zero at bytes = position_from (λ b. not (b == 0)) at bytes
 
--- the first fault of a column: a length over the limit, a text that isn't UTF-8, a byte behind the text that isn't 0
+-- the first fault of a column: a length over the limit, a
+-- text that isn't UTF-8, a byte behind the text that isn't 0
 abbrev pub cell_fault : ℕ → Kind → List ℕ → Option ℕ
 cell_fault at kind.Int bytes = None
 cell_fault at (kind.Text limit) bytes =
@@ -79,9 +81,11 @@ cell_fault at (kind.Text limit) bytes =
 abbrev pub cells_fault : ℕ → List Column → List ℕ → Option ℕ
 cells_fault at [] bytes = first_not_zero at bytes
 cells_fault at (c ∷ columns) bytes =
-    option_or (cell_fault at c.kind (take (width c.kind) bytes)) (cells_fault (at + width c.kind) columns (drop (width c.kind) bytes))
+    option_or (cell_fault at c.kind (take (width c.kind) bytes))
+    (cells_fault (at + width c.kind) columns (drop (width c.kind) bytes))
 
--- the first fault of a slot, in the order of its bytes: a tag over 1 at once, then what the tag says that follows
+-- the first fault of a slot, in the order of its bytes: a
+-- tag over 1 at once, then what the tag says that follows
 abbrev pub slot_fault : List Column → List ℕ → Option ℕ
 slot_fault columns [] = None
 slot_fault columns (tag ∷ bytes) =

@@ -42,9 +42,14 @@ empty_table def = record { def = def; rows = [] }
 
 -- the tables after a table was asked for: it is added without rows, unless it is refused
 abbrev pub with_table : Tables → TableDef → Tables
-with_table tables def = if is_none (refusal (schema_of tables) def) then tables ++ empty_table def ∷ [] else tables
+with_table tables def =
+    if is_none (refusal (schema_of tables) def) then tables ++ empty_table def ∷ [] else tables
 
 -- the verdicts on tables that are asked for one after the other, and the tables after them
 abbrev pub created : Tables → List TableDef → List (Result (Unit {0}) SchemaFault) × Tables
 created tables [] = ([], tables)
-created tables (def ∷ defs) = (verdict (schema_of tables) def ∷ (created (with_table tables def) defs).0, (created (with_table tables def) defs).1)
+created tables (def ∷ defs) = (
+  verdict (schema_of tables) def
+      ∷ (created (with_table tables def) defs).0,
+  (created (with_table tables def) defs).1,
+)

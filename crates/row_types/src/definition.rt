@@ -25,8 +25,8 @@ impl TryCopy for Column {
     }
 }
 
-/// The definition of a table: its name, its columns, and the numbers, from 0, of the columns that are marked PRIMARY
-/// KEY.
+/// The definition of a table: its name, its columns, and the numbers, from 0, of the columns that are marked
+/// PRIMARY KEY.
 #[derive(Debug, Drop)]
 pub struct TableDef {
     pub name: Name,

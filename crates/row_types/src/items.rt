@@ -24,7 +24,8 @@ impl TryCopy for i64 {
     }
 }
 
-/// Elements in their order, seen as their list: two with the same elements are equal, whatever memory they have.
+/// Elements in their order, seen as their list: two with the
+/// same elements are equal, whatever memory they have.
 #[derive(Debug, Drop)]
 pub struct Items<T> {
     items: Vec<T>,

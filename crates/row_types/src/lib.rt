@@ -1,4 +1,5 @@
-//! Names, texts, rows, definitions of tables and the blocks of a script: the values that every layer above speaks of.
+//! Names, texts, rows, definitions of tables and the blocks
+//! of a script: the values that every layer above speaks of.
 #![tactic(auto)]
 
 mod block;

@@ -1,9 +1,12 @@
 // Schemas: the definitions of the tables that there are.
-ghost use Rattle.std.specs.Prelude.{◌≡◌, ◌⊎◌, ◌↔◌, ◌<◌, ◌≤◌, ◌++◌, ◌∷◌, [], List, length, Some, None, Ok, Err, IsTrue, IfSome, IfNone, OnOk, OnErr, slice_get};
+ghost use Rattle.std.specs.Prelude.{◌≡◌, ◌⊎◌, ◌↔◌, ◌<◌, ◌≤◌, ◌++◌, ◌∷◌, [], List, length, Some, None, Ok};
+ghost use Rattle.std.specs.Prelude.{Err, IsTrue, IfSome, IfNone, OnOk, OnErr, slice_get};
 ghost use Rattle.std.specs.List.{AllByRecursion};
 ghost use Rattle.row_types.specs.Text.{IsName};
 ghost use Rattle.row_types.specs.declared.definition.TableDef.{TableDef};
-ghost use Rattle.row_types.specs.Schema.{table_named, column_named, has_table, has_column, doubled_from, has_int_key, refusal, verdict, columns_at, IsTable, IsNamed, IsSchema};
+ghost use Rattle.row_types.specs.Schema.{table_named, column_named, has_table, has_column, doubled_from};
+ghost use Rattle.row_types.specs.Schema.{has_int_key, refusal, verdict, columns_at, IsTable, IsNamed};
+ghost use Rattle.row_types.specs.Schema.{IsSchema};
 ghost use Rattle.row_types.specs.Slot.{slot_len};
 ghost use Rattle.row_types.specs.Tables.{Tables, AreTables, created};
 
@@ -19,7 +22,8 @@ const COLUMNS: usize = 32;
 /// The bytes of a page, which a slot has to fit.
 pub(crate) const PAGE: usize = 4096;
 
-/// The definitions of the tables in the order of their making, seen as their list. A table's number is its place there.
+/// The definitions of the tables in the order of their making,
+/// seen as their list. A table's number is its place there.
 #[derive(Debug, Drop)]
 pub struct Schema {
     tables: Items<TableDef>,
@@ -97,12 +101,13 @@ impl Schema {
         Some(column as u8)
     }
 
-    /// Adds a table at the end. It is refused for the first of these rules that it breaks, and then nothing is added:
-    /// no other table has its name; there are below 16 tables; it has at most 32 columns; their names differ (the
-    /// place is the number of the first column whose name an earlier one has); one column is marked as the key, and
-    /// it holds whole numbers; a slot has at most 4,096 bytes.
+    /// Adds a table at the end. It is refused for the first of these rules that it breaks, and then nothing
+    /// is added: no other table has its name; there are below 16 tables; it has at most 32 columns; their
+    /// names differ (the place is the number of the first column whose name an earlier one has); one column
+    /// is marked as the key, and it holds whole numbers; a slot has at most 4,096 bytes.
     pub fn add(&mut self, def: TableDef) -> Result<(), SchemaFault>
-        ensures verdict { (result ≡ verdict self.old def) ⊎ ((verdict self.old def ≡ Ok tt) × (result ≡ Err SchemaFault.OutOfMemory)) }
+        ensures verdict { (result ≡ verdict self.old def)
+            ⊎ ((verdict self.old def ≡ Ok tt) × (result ≡ Err SchemaFault.OutOfMemory)) }
         ensures ok { OnOk result (self.new ≡ self.old ++ def ∷ []) }
         ensures err { OnErr result (self.new ≡ self.old) }
     {
@@ -218,8 +223,11 @@ fn refusal(tables: &[TableDef], def: &TableDef) -> Option<SchemaFault>
     None
 }
 
-/// Where tables are asked for, what there is then are tables of a schema again, and each that was asked for has a verdict.
+/// Where tables are asked for, what there is then are tables of
+/// a schema again, and each that was asked for has a verdict.
 pub fn created_are_tables()
-    ensures tables { (tables : Tables) (defs : List TableDef) → AreTables tables → AllByRecursion IsNamed defs → AreTables (created tables defs).1 }
-    ensures verdicts { (tables : Tables) (defs : List TableDef) → length (created tables defs).0 ≡ length defs }
+    ensures tables { (tables : Tables) (defs : List TableDef) → AreTables tables
+        → AllByRecursion IsNamed defs → AreTables (created tables defs).1 }
+    ensures verdicts { (tables : Tables) (defs : List TableDef)
+        → length (created tables defs).0 ≡ length defs }
 {}

@@ -1,5 +1,6 @@
 // How the rows of a schema's tables stand in their slots.
-ghost use Rattle.std.specs.Prelude.{◌≡◌, ◌⊎◌, ◌↔◌, ℕ, ◌/◌, ◌<◌, ◌≤◌, List, length, map, Some, None, Ok, Err, IsTrue, IfOk, IfSome};
+ghost use Rattle.std.specs.Prelude.{◌≡◌, ◌⊎◌, ◌↔◌, ℕ, ◌/◌, ◌<◌, ◌≤◌, List, length, map, Some, None, Ok, Err};
+ghost use Rattle.std.specs.Prelude.{IsTrue, IfOk, IfSome};
 ghost use Rattle.row_types.specs.Slot.{slot_len, slot_text, empty_slot, slot_fault, IsRowOf};
 ghost use Rattle.row_types.specs.Schema.{columns_at, keys_at};
 ghost use Rattle.row_types.specs.Keys.{int_at};
@@ -48,7 +49,8 @@ impl Schema {
         write_slot(self.columns(table), row.as_slice(), into);
     }
 
-    /// The place of the first fault of a slot, in the order of its bytes. `None`: it is the slot of a row, or empty.
+    /// The place of the first fault of a slot, in the order of
+    /// its bytes. `None`: it is the slot of a row, or empty.
     pub fn slot_fault(&self, table: u16, slot: &[u8]) -> Option<u64>
         requires table { table < length self.now }
         requires whole { length slot.now ≡ slot_len (columns_at self.now table) }
@@ -58,20 +60,24 @@ impl Schema {
         Some(at as u64)
     }
 
-    /// The row of a slot, `None` where it is empty. `BadSlot` names the first fault in the order of its bytes.
+    /// The row of a slot, `None` where it is empty. `BadSlot`
+    /// names the first fault in the order of its bytes.
     pub fn decode(&self, alloc: Global, table: u16, slot: &[u8]) -> Result<Option<Row>, SlotFault>
         requires table { table < length self.now }
         requires whole { length slot.now ≡ slot_len (columns_at self.now table) }
 
         // What is read is a row with this slot, and every slot of a row is read, unless memory runs out.
         ensures row { IfOk result (λ found. IfSome found (λ row.
-            IsRowOf (columns_at self.now table) row × (slot.now ≡ slot_text (columns_at self.now table) row))) }
-        ensures only { (row : List Value) → IsRowOf (columns_at self.now table) row → slot.now ≡ slot_text (columns_at self.now table) row
+            IsRowOf (columns_at self.now table) row
+            × (slot.now ≡ slot_text (columns_at self.now table) row))) }
+        ensures only { (row : List Value) → IsRowOf (columns_at self.now table) row
+            → slot.now ≡ slot_text (columns_at self.now table) row
             → (result ≡ Ok (Some row)) ⊎ (result ≡ Err SlotFault.OutOfMemory) }
 
         // No row is read exactly where the slot is empty, and a fault is told exactly where it is the first.
         ensures empty { (result ≡ Ok None) ↔ (slot.now ≡ empty_slot (columns_at self.now table)) }
-        ensures bad { (at : ℕ) → (result ≡ Err (SlotFault.BadSlot at)) ↔ (slot_fault (columns_at self.now table) slot.now ≡ Some at) }
+        ensures bad { (at : ℕ) → (result ≡ Err (SlotFault.BadSlot at))
+            ↔ (slot_fault (columns_at self.now table) slot.now ≡ Some at) }
     {
         read_slot(alloc, self.columns(table), slot)
     }
@@ -98,6 +104,7 @@ impl Schema {
 
 /// A row has one slot, and a slot is of one row.
 pub fn one_slot()
-    ensures { (columns : List Column) (a b : List Value) → slot_len columns ≤ 4096 → IsRowOf columns a → IsRowOf columns b
+    ensures { (columns : List Column) (a b : List Value) → slot_len columns ≤ 4096 → IsRowOf columns a
+        → IsRowOf columns b
         → slot_text columns a ≡ slot_text columns b → a ≡ b }
 {}

@@ -1,9 +1,13 @@
 // The text of a schema, as it stands in a file.
-ghost use Rattle.std.specs.Prelude.{◌≡◌, ◌⊎◌, ◌+◌, ◌≤◌, ◌<◌, ◌∷◌, ◌++◌, [], List, length, None, Some, Ok, Err, IfOk, IfSome, IsErr, IsSome, MatchResult, slice_index, if◌then◌else◌};
+ghost use Rattle.std.specs.Prelude.{◌≡◌, ◌⊎◌, ◌+◌, ◌≤◌, ◌<◌, ◌∷◌, ◌++◌, [], List, length, None, Some, Ok};
+ghost use Rattle.std.specs.Prelude.{Err, IfOk, IfSome, IsErr, IsSome, MatchResult, slice_index};
+ghost use Rattle.std.specs.Prelude.{if◌then◌else◌};
 ghost use Rattle.std.specs.List.{flat_map};
 ghost use Rattle.row_types.specs.Schema.{IsSchema, IsTable, refusal};
-ghost use Rattle.row_types.specs.SchemaText.{name_text, kind_text, column_text, table_text, schema_text, Puts};
-ghost use Rattle.row_types.specs.SchemaReading.{ReadsAs, byte_at, is_name, name_at, limit_at, kind_at, column_at, columns_from, table_at, schema_at};
+ghost use Rattle.row_types.specs.SchemaText.{name_text, kind_text, column_text, table_text, schema_text};
+ghost use Rattle.row_types.specs.SchemaText.{Puts};
+ghost use Rattle.row_types.specs.SchemaReading.{ReadsAs, byte_at, is_name, name_at, limit_at, kind_at};
+ghost use Rattle.row_types.specs.SchemaReading.{column_at, columns_from, table_at, schema_at};
 ghost use Rattle.row_types.specs.declared.definition.TableDef.{TableDef};
 ghost use Rattle.row_types.specs.declared.schema_text.ReadError.TheVariants.{Memory, Invalid};
 
@@ -37,8 +41,10 @@ impl Schema {
         requires { format ≡ 1 }
 
         // What is read has this text, and every schema with this text is read, unless memory runs out.
-        ensures found { IfOk result (λ found. IfSome found (λ schema. IsSchema schema × (from.now ≡ schema_text schema))) }
-        ensures only { (tables : List TableDef) → IsSchema tables → from.now ≡ schema_text tables → (result ≡ Ok (Some tables)) ⊎ IsErr result }
+        ensures found { IfOk result
+            (λ found. IfSome found (λ schema. IsSchema schema × (from.now ≡ schema_text schema))) }
+        ensures only { (tables : List TableDef) → IsSchema tables → from.now ≡ schema_text tables
+            → (result ≡ Ok (Some tables)) ⊎ IsErr result }
     {
         prove_eq!(format, FORMAT);
         match schema_of(alloc, from) {

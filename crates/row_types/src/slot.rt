@@ -1,6 +1,8 @@
 // How a row, or no row, stands in the bytes of a slot.
-ghost use Rattle.std.specs.Prelude.{◌≡◌, ℕ, ◌+◌, ◌-◌, ◌≤◌, ◌<◌, ◌^◌, ◌↔◌, length, drop, replicate, None, Some, IfOk, IfSome, IsTrue};
-ghost use Rattle.row_types.specs.Slot.{width, widths, slot_len, cell_text, slot_text, empty_slot, FitsKind, IsRowOf, first_not_zero, cell_fault, cells_fault, slot_fault};
+ghost use Rattle.std.specs.Prelude.{◌≡◌, ℕ, ◌+◌, ◌-◌, ◌≤◌, ◌<◌, ◌^◌, ◌↔◌, length, drop, replicate, None};
+ghost use Rattle.std.specs.Prelude.{Some, IfOk, IfSome, IsTrue};
+ghost use Rattle.row_types.specs.Slot.{width, widths, slot_len, cell_text, slot_text, empty_slot, FitsKind};
+ghost use Rattle.row_types.specs.Slot.{IsRowOf, first_not_zero, cell_fault, cells_fault, slot_fault};
 ghost use Rattle.row_types.specs.Reading.{cell_value, cells_values, read_slot, IsUnlessMemory};
 
 use crate::{Column, Kind, OutOfMemory, Row, SlotFault, Text, Value};
@@ -69,9 +71,11 @@ fn is_zero_word(bytes: &[u8]) -> bool
     }
 }
 
-/// How many bytes stand in the words of eight zeros at the front: those of a padding are tested so, and not one by one.
+/// How many bytes stand in the words of eight zeros at the
+/// front: those of a padding are tested so, and not one by one.
 fn zeros_in_words(bytes: &[u8]) -> usize
-    ensures zeros { (at : ℕ) → first_not_zero at bytes.now ≡ first_not_zero (at + result) (drop result bytes.now) }
+    ensures zeros { (at : ℕ)
+        → first_not_zero at bytes.now ≡ first_not_zero (at + result) (drop result bytes.now) }
     ensures within { result ≤ length bytes.now }
 {
     let mut len = 0;

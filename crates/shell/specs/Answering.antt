@@ -17,14 +17,18 @@ use Rattle.shell.specs.declared.stop.Stop.{Stop}
 use Rattle.shell.specs.declared.stop.Stop.TheVariants.{Disk, OutOfMemory}
 
 module _ {D : Type 0} (d : Ghosts D) where
-  -- A session came from old to new by a statement: its reply and pairs, why it stopped, and what a crash leaves.
-  pub record AnswersStatement (statement : KvStatement) (old new : Session D) (result : Result Reply Stop) : Type 0 where
+  -- A session came from old to new by a statement: its reply
+  -- and pairs, why it stopped, and what a crash leaves.
+  pub record AnswersStatement (statement : KvStatement) (old new : Session D)
+      (result : Result Reply Stop) : Type 0 where
     -- where it is answered
     pub reply : IfOk result (λ reply. (pairs : Pairs) → Keeps d old pairs
         → (reply ≡ reply_to pairs statement) × Keeps d new (pairs_after pairs statement))
-    pub durable : OnOk result ((pairs : Pairs) → Secures d old pairs → Secures d new (pairs_after pairs statement))
+    pub durable : OnOk result
+        ((pairs : Pairs) → Secures d old pairs → Secures d new (pairs_after pairs statement))
     -- where memory ran out
-    pub memory : IfErr result (λ stop. stop ≡ OutOfMemory → (pairs : Pairs) → Keeps d old pairs → Keeps d new pairs)
+    pub memory : IfErr result
+        (λ stop. stop ≡ OutOfMemory → (pairs : Pairs) → Keeps d old pairs → Keeps d new pairs)
     pub short : IfErr result (λ stop. stop ≡ OutOfMemory → (pairs : Pairs) → Secures d old pairs
         → Secures d new pairs × LeavesOnly d (disk_of old.writer) (disk_of new.writer) (IsLogOf pairs))
     -- where the disk failed
@@ -34,4 +38,5 @@ module _ {D : Type 0} (d : Ghosts D) where
     -- whatever it came to
     pub moments : (pairs : Pairs) → Secures d old pairs
         → LeavesOnly d (disk_of old.writer) (disk_of new.writer) (BeforeOrAfter pairs statement)
-    pub crash : (pairs : Pairs) → Secures d old pairs → LeavesNow d (disk_of new.writer) (BeforeOrAfter pairs statement)
+    pub crash : (pairs : Pairs) → Secures d old pairs
+        → LeavesNow d (disk_of new.writer) (BeforeOrAfter pairs statement)

@@ -47,7 +47,8 @@ module _ {S : Type 0} (s : source.Ghosts S) where
   NoScript other old new = ⊥
 
 -- The words ask for no run: nothing was done.
-pub record WrongWords {S D : Type 0} (words : List (List ℕ)) (old new : Outside S D) (view : OutcomeView) : Type 0 where
+pub record WrongWords {S D : Type 0} (words : List (List ℕ)) (old new : Outside S D)
+    (view : OutcomeView) : Type 0 where
   pub asks_nothing : ¬ (IsRun words)
   pub untouched : new ≡ old
   pub outcome : view ≡ shows_none Usage
@@ -69,15 +70,18 @@ module _ {S D : Type 0} (s : source.Ghosts S) (d : disk.Ghosts D) where
     pub script : Option (List KvStatement)
     pub is : GivesScript s old.source script
     pub runs : Runs d script old.disk view.end view.shown new.disk
-    pub survives : (bytes : List ℕ) → IsQuiet d old.disk bytes → Survives d bytes script old.disk view.end view.shown new.disk
+    pub survives : (bytes : List ℕ) → IsQuiet d old.disk bytes
+        → Survives d bytes script old.disk view.end view.shown new.disk
 
   -- the reason of an end: the words ask for no run, no script was read, or one was run
   abbrev pub Explains : List (List ℕ) → Outside S D → Outside S D → OutcomeView → Type 0
-  Explains words old new view = WrongWords words old new view ⊎ (Unread s words old new view ⊎ ScriptRan words old new view)
+  Explains words old new view =
+      WrongWords words old new view ⊎ (Unread s words old new view ⊎ ScriptRan words old new view)
 
 module _ {S K D : Type 0} (s : source.Ghosts S) (k : sink.Ghosts K) (d : disk.Ghosts D) where
   -- A call came to an outcome for one of these reasons, and showed it.
-  pub record Answers (words : List (List ℕ)) (old new : Outside S D) (old_sink new_sink : K) (status : ℕ) : Type 0 where
+  pub record Answers (words : List (List ℕ)) (old new : Outside S D) (old_sink new_sink : K)
+      (status : ℕ) : Type 0 where
     pub view : OutcomeView
     pub why : Explains s d words old new view
     pub shows : Shows k view old_sink new_sink status

@@ -1,5 +1,6 @@
 -- What the statements over the table kv reply and leave, over a plain list of pairs.
-use Rattle.std.specs.Prelude.{ℕ, ◌+◌, ◌*◌, nat_lt, ℤ, FitsSigned, Bool, if◌then◌else◌, List, [], ◌∷◌, ◌++◌, length, Option, None, Some, is_some, ◌||◌}
+use Rattle.std.specs.Prelude.{ℕ, ◌+◌, ◌*◌, nat_lt, ℤ, FitsSigned, Bool, if◌then◌else◌, List, [], ◌∷◌, ◌++◌}
+use Rattle.std.specs.Prelude.{length, Option, None, Some, is_some, ◌||◌}
 use Rattle.std.specs.Ordering.{int_eq}
 use Rattle.std.specs.Map.{lookup}
 use Rattle.std.specs.Int.{w64, to_le_bytes, cast_unsigned}
@@ -40,12 +41,14 @@ look_up key (Some value) = Found key value
 -- what a statement replies
 abbrev pub reply_to : Pairs → KvStatement → Reply
 reply_to pairs (Insert key value) =
-    if is_some (value_of pairs key) then Duplicate key else (if is_full pairs then LogFull (used_bytes pairs) else Inserted)
+    if is_some (value_of pairs key) then Duplicate key
+    else (if is_full pairs then LogFull (used_bytes pairs) else Inserted)
 reply_to pairs (Select key) = look_up key (value_of pairs key)
 
 -- the pairs that a statement leaves: an insert that is accepted adds its pair
 abbrev pub pairs_after : Pairs → KvStatement → Pairs
-pairs_after pairs (Insert key value) = if is_some (value_of pairs key) || is_full pairs then pairs else pairs ++ (key, value) ∷ []
+pairs_after pairs (Insert key value) =
+    if is_some (value_of pairs key) || is_full pairs then pairs else pairs ++ (key, value) ∷ []
 pairs_after pairs (Select key) = pairs
 
 -- what statements reply one after the other

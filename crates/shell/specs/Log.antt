@@ -1,5 +1,6 @@
 -- The log file of the pairs: which pairs it may hold, and what its bytes read as.
-use Rattle.std.specs.Prelude.{◌≡◌, ◌≢◌, ◌⊎◌, ℕ, ◌+◌, ◌*◌, ◌<◌, ◌≤◌, ℤ, true, ⊤, List, [], ◌∷◌, ◌++◌, length, map, take, is_some, None}
+use Rattle.std.specs.Prelude.{◌≡◌, ◌≢◌, ◌⊎◌, ℕ, ◌+◌, ◌*◌, ◌<◌, ◌≤◌, ℤ, true, ⊤, List, [], ◌∷◌, ◌++◌, length}
+use Rattle.std.specs.Prelude.{map, take, is_some, None}
 use Rattle.std.specs.List.{AllByRecursion}
 use Rattle.std.specs.Int.{w32, to_le_bytes}
 use Rattle.lane_format.specs.Lane.{IsLane, IsNotOpen, IsOpen, batch_text, header_text, lane_text}
@@ -40,15 +41,18 @@ pub data Breaks (pairs : Pairs) (behind : List ℕ) : Type 0 where
   NoGate : behind ≡ [] → Breaks pairs behind
   OtherLength : (rest : List ℕ) → behind ≡ 1 ∷ rest → take 4 rest ≢ to_le_bytes w32 16 → Breaks pairs behind
   CutShort : (rest : List ℕ) → behind ≡ 1 ∷ rest → length rest < 20 → Breaks pairs behind
-  TooLate : (rest : List ℕ) → behind ≡ 1 ∷ rest → last_end < gate_place (length pairs + 1) → Breaks pairs behind
-  SameKey : (pair : ℤ × ℤ) (rest : List ℕ) → FitsPair pair → behind ≡ batch_text (pair_body pair) ++ rest → is_some (value_of pairs pair.0) ≡ true → Breaks pairs behind
+  TooLate : (rest : List ℕ) → behind ≡ 1 ∷ rest → last_end < gate_place (length pairs + 1)
+      → Breaks pairs behind
+  SameKey : (pair : ℤ × ℤ) (rest : List ℕ) → FitsPair pair → behind ≡ batch_text (pair_body pair) ++ rest
+      → is_some (value_of pairs pair.0) ≡ true → Breaks pairs behind
 
 -- The file is open, but it is too short for a head and a gate, has the head of another generation or lane, or
 -- breaks off behind some batches.
 pub data IsDamaged (bytes : List ℕ) : Type 0 where
   Short : IsOpen bytes → length bytes < 12 → IsDamaged bytes
   OtherHead : IsOpen bytes → take 11 bytes ≢ header_text 2 0 → IsDamaged bytes
-  BreaksOff : (pairs : Pairs) (behind : List ℕ) → MayBeLogged pairs → bytes ≡ log_text pairs ++ behind → Breaks pairs behind → IsDamaged bytes
+  BreaksOff : (pairs : Pairs) (behind : List ℕ) → MayBeLogged pairs → bytes ≡ log_text pairs ++ behind
+      → Breaks pairs behind → IsDamaged bytes
 
 -- What a log file reads as: not open, damaged, or the log of these pairs in this order.
 pub data LogRead : Type 0 where

@@ -20,7 +20,9 @@ use Rattle.shell.specs.declared.reading.Front.TheVariants as front
 abbrev pub IsFound : Option (List ℕ) → LogContent → Type 0
 IsFound bytes content.NotOpen = ForSome bytes (λ bytes. log_reads bytes NotOpen)
 IsFound bytes content.Damaged = ForSome bytes (λ bytes. log_reads bytes Damaged)
-IsFound bytes (content.Holding table) = (pairs : Pairs) × IsMapOf table pairs × MayBeLogged pairs × ForSome bytes (λ bytes. log_reads bytes (Holding pairs))
+IsFound bytes (content.Holding table) =
+    (pairs : Pairs) × IsMapOf table pairs × MayBeLogged pairs
+    × ForSome bytes (λ bytes. log_reads bytes (Holding pairs))
 
 -- the count of the disk's faults, by why a log file wasn't read: it rose by one, or memory ran out and it
 -- stands
@@ -52,7 +54,8 @@ Comes front.Breaks pairs bytes = IsDamaged bytes
 
 -- So far the file was read, of which these bytes are there: the map has the pairs, and that comes behind
 -- them.
-pub record Reached (content : Option (List ℕ)) (size : ℕ) (front : Front) (table : BTreeMap ℤ ℤ) : Type 0 where
+pub record Reached (content : Option (List ℕ)) (size : ℕ) (front : Front)
+    (table : BTreeMap ℤ ℤ) : Type 0 where
   pub pairs : Pairs
   pub table_is : IsMapOf table pairs
   pub logged : MayBeLogged pairs

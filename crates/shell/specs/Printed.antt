@@ -24,10 +24,12 @@ module _ {K : Type 0} (k : Ghosts K) where
   -- whatever was printed before, this piece comes after it
   abbrev pub Prints : List ℕ → Printer → K → Printer → K → Type 0
   Prints piece old old_sink new new_sink =
-      (start : K) (text : List ℕ) → IsPrinted start text old old_sink → IsPrinted start (text ++ piece) new new_sink
+      (start : K) (text : List ℕ) → IsPrinted start text old old_sink
+      → IsPrinted start (text ++ piece) new new_sink
 
   -- At the end of the text the sink took it whole, or one push failed, and the sink took a front of it.
-  pub record EndsPrinted {T E : Type 0} (start : K) (text : List ℕ) (result : Result T E) (now : K) : Type 0 where
+  pub record EndsPrinted {T E : Type 0} (start : K) (text : List ℕ) (result : Result T E)
+      (now : K) : Type 0 where
     pub front : List ℕ
     pub rest : List ℕ
     pub text_is : text ≡ front ++ rest

@@ -16,4 +16,5 @@ pub record LinesSoFar (text : List ℕ) (statements : List KvStatement) (rest : 
   pub text_is : text ≡ flat_map statement_text statements ++ rest
   pub fits : AllByRecursion Fits statements
   pub only : (all : List KvStatement) → AllByRecursion Fits all → text ≡ flat_map statement_text all
-      → (more : List KvStatement) × AllByRecursion Fits more × (all ≡ statements ++ more) × (rest ≡ flat_map statement_text more)
+      → (more : List KvStatement) × AllByRecursion Fits more × (all ≡ statements ++ more)
+      × (rest ≡ flat_map statement_text more)

@@ -1,5 +1,6 @@
 -- Which input is a script: the text of one session's statements, or no text.
-use Rattle.std.specs.Prelude.{◌≡◌, ℕ, ◌==◌, ◌||◌, ◌≤◌, ℤ, Bool, false, FitsSigned, List, [], ◌∷◌, ◌++◌, length, codes, ⊤, Option, None, Some}
+use Rattle.std.specs.Prelude.{◌≡◌, ℕ, ◌==◌, ◌||◌, ◌≤◌, ℤ, Bool, false, FitsSigned, List, [], ◌∷◌, ◌++◌}
+use Rattle.std.specs.Prelude.{length, codes, ⊤, Option, None, Some}
 use Rattle.std.specs.Char.{is_ascii_digit}
 use Rattle.std.specs.Int.{w64}
 use Rattle.std.specs.Fmt.{signed_decimal}

@@ -21,7 +21,9 @@ file_named (lane.Closed file) = file
 
 -- the fault names the lane's even file, and one call of its disk failed
 abbrev pub NamesItsFile : {D : Type 0} → Ghosts D → LaneWriter D → LaneWriter D → LaneFault → Type 0
-NamesItsFile d old new fault = (file_named fault ≡ even_file (lane_of old)) × (d.faults (disk_of new) ≡ one_more (d.faults (disk_of old)))
+NamesItsFile d old new fault =
+    (file_named fault ≡ even_file (lane_of old))
+    × (d.faults (disk_of new) ≡ one_more (d.faults (disk_of old)))
 
 -- the count of the disk's faults stands still but where a fault of it is reported
 abbrev pub StopStands : ℕ → ℕ → Stop → Type 0
@@ -35,7 +37,8 @@ CountStands old new (Err why) = StopStands old new why
 
 -- the file couldn't be opened: it is damaged or memory ran out, and it stays as it was, or its disk failed
 abbrev pub CannotOpen : {D : Type 0} → Ghosts D → D → CallEnd → D → Type 0
-CannotOpen d old Damaged new = ForSome (d.content old) IsDamaged × (d.content new ≡ d.content old) × (d.faults new ≡ d.faults old)
+CannotOpen d old Damaged new =
+    ForSome (d.content old) IsDamaged × (d.content new ≡ d.content old) × (d.faults new ≡ d.faults old)
 CannotOpen d old OutOfMemory new = (d.content new ≡ d.content old) × (d.faults new ≡ d.faults old)
 CannotOpen d old (Disk file) new = (file ≡ even_file 0) × (d.faults new ≡ one_more (d.faults old))
 CannotOpen d old other new = ⊥

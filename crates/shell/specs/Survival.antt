@@ -37,12 +37,14 @@ module _ {D : Type 0} (d : Ghosts D) where
 
   -- Of statements over these pairs so many were answered and so many tried. A crash at any moment since
   -- leaves the pairs of the first of them, and one at the end those of all that were answered.
-  pub record Outlasts (pairs : Pairs) (statements : List KvStatement) (answered tried : ℕ) (old new : D) : Type 0 where
+  pub record Outlasts (pairs : Pairs) (statements : List KvStatement) (answered tried : ℕ)
+      (old new : D) : Type 0 where
     pub moments : LeavesOnly d old new (HasFirst pairs statements 0 tried)
     pub now : (image : List ℕ) → d.may_leave new image → HasFirst pairs statements answered tried image
 
   -- A run stopped with this word: the statements before are answered, and so many from there on were tried.
-  pub record OutlastsStop (bytes : List ℕ) (script : Option (List KvStatement)) (word : Reply) (more : ℕ) (shown : Option (List Reply)) (old new : D) : Type 0 where
+  pub record OutlastsStop (bytes : List ℕ) (script : Option (List KvStatement)) (word : Reply) (more : ℕ)
+      (shown : Option (List Reply)) (old new : D) : Type 0 where
     pub pairs : Pairs
     pub entry : BeginsWith pairs bytes
     pub stops : RunStops pairs script word shown
@@ -53,7 +55,8 @@ module _ {D : Type 0} (d : Ghosts D) where
   abbrev pub Survives : List ℕ → Option (List KvStatement) → D → CallEnd → Option (List Reply) → D → Type 0
   Survives bytes script old Done shown new =
       (pairs : Pairs) × BeginsWith pairs bytes
-      × Outlasts pairs (statements_in script) (length (statements_in script)) (length (statements_in script)) old new
+      × Outlasts pairs (statements_in script) (length (statements_in script))
+      (length (statements_in script)) old new
   Survives bytes script old (Disk file) shown new =
       ((shown ≡ None) × LeavesOnly d old new (LeftUnbegun (Disk file) bytes))
       ⊎ OutlastsStop bytes script Stopped 1 shown old new

@@ -7,9 +7,11 @@ use Rattle.shell.specs.Outcome.{OutcomeView}
 use Rattle.disk_core.specs.declared.store.FileName.{FileName}
 use Rattle.disk_core.specs.declared.store.FileName.TheVariants.{AreaA, AreaB, Lane}
 use Rattle.shell.specs.declared.reply.Reply.{Reply}
-use Rattle.shell.specs.declared.reply.Reply.TheVariants.{Inserted, Duplicate, LogFull, Found, Missing, Stopped, StoppedMemory}
+use Rattle.shell.specs.declared.reply.Reply.TheVariants.{Inserted, Duplicate, LogFull, Found, Missing}
+use Rattle.shell.specs.declared.reply.Reply.TheVariants.{Stopped, StoppedMemory}
 use Rattle.shell.specs.declared.end.CallEnd.{CallEnd}
-use Rattle.shell.specs.declared.end.CallEnd.TheVariants.{Done, Usage, OutOfMemory, Disk, Source, Script, Damaged}
+use Rattle.shell.specs.declared.end.CallEnd.TheVariants.{Done, Usage, OutOfMemory, Disk, Source, Script}
+use Rattle.shell.specs.declared.end.CallEnd.TheVariants.{Damaged}
 
 -- the lines of a reply
 abbrev pub reply_text : Reply → List ℕ

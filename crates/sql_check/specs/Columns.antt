@@ -1,5 +1,6 @@
 -- What the names of a statement stand for.
-use Rattle.std.specs.Prelude.{ℕ, Bool, false, ◌==◌, List, [], ◌∷◌, length, slice_get, unwrap_or, Option, None, Some, option_map}
+use Rattle.std.specs.Prelude.{ℕ, Bool, false, ◌==◌, List, [], ◌∷◌, length, slice_get, unwrap_or, Option, None}
+use Rattle.std.specs.Prelude.{Some, option_map}
 use Rattle.std.specs.List.{list_any, find}
 use Rattle.std.specs.Str.{bytes_eq}
 use Rattle.std.specs.Option.{option_map_or}
@@ -33,7 +34,8 @@ column_number columns name = unwrap_or (column_named columns name) 0
 
 -- the kind of the first column with this name
 abbrev pub kind_named : List Column → List ℕ → Option Kind
-kind_named columns name = option_map (λ (c : Column). c.kind) (find (λ (c : Column). bytes_eq c.name name) columns)
+kind_named columns name =
+    option_map (λ (c : Column). c.kind) (find (λ (c : Column). bytes_eq c.name name) columns)
 
 -- column number n is marked as the key
 abbrev pub is_marked : List ℕ → ℕ → Bool

@@ -1,11 +1,13 @@
 -- The keys that a statement is about.
-use Rattle.std.specs.Prelude.{◌≡◌, ℕ, ◌+◌, ◌-◌, ◌^◌, ◌<◌, ◌≤◌, min, max, Bool, if◌then◌else◌, nat_lt, List, [], ◌∷◌, map, fold, filter, Option, None, Some, ⊤}
+use Rattle.std.specs.Prelude.{◌≡◌, ℕ, ◌+◌, ◌-◌, ◌^◌, ◌<◌, ◌≤◌, min, max, Bool, if◌then◌else◌, nat_lt, List}
+use Rattle.std.specs.Prelude.{[], ◌∷◌, map, fold, filter, Option, None, Some, ⊤}
 use Rattle.row_types.specs.declared.definition.TableDef.{TableDef}
 use Rattle.row_types.specs.declared.row.Value.{Value}
 use Rattle.row_types.specs.Keys.{key_of_int, int_of, row_key}
 use Rattle.key_space.specs.declared.range.Range.{Range}
 use Rattle.sql_parse.specs.declared.statement.Comparison.{Comparison}
-use Rattle.sql_parse.specs.declared.statement.Comparison.TheVariants.{Equal, NotEqual, Less, LessEqual, Greater, GreaterEqual}
+use Rattle.sql_parse.specs.declared.statement.Comparison.TheVariants.{Equal, NotEqual, Less, LessEqual}
+use Rattle.sql_parse.specs.declared.statement.Comparison.TheVariants.{Greater, GreaterEqual}
 use Rattle.sql_parse.specs.declared.statement.Condition.{Condition}
 use Rattle.sql_check.specs.Columns.{is_key}
 
@@ -47,7 +49,9 @@ key_in condition = key_of_int (int_of (Some condition.value))
 
 -- the keys from one up to below another
 abbrev pub keys_below : ℕ → ℕ → Option Range
-keys_below from end = if nat_lt from end then Some (record { lo = record { number = from }; hi = record { number = end - 1 } }) else None
+keys_below from end =
+    if nat_lt from end then Some (record { lo = record { number = from }; hi = record { number = end - 1 } })
+    else None
 
 -- the greatest of the low ends of conditions on the key
 abbrev pub from_of : List Condition → ℕ

@@ -1,5 +1,7 @@
--- Why a statement doesn't fit the tables: its names, kinds and counts, tested in the order in which they stand.
-use Rattle.std.specs.Prelude.{ℕ, Bool, true, false, not, ◌||◌, if◌then◌else◌, ◌==◌, nat_lt, List, [], ◌∷◌, ◌++◌, length, map, Option, None, Some}
+-- Why a statement doesn't fit the tables: its names, kinds
+-- and counts, tested in the order in which they stand.
+use Rattle.std.specs.Prelude.{ℕ, Bool, true, false, not, ◌||◌, if◌then◌else◌, ◌==◌, nat_lt, List, [], ◌∷◌}
+use Rattle.std.specs.Prelude.{◌++◌, length, map, Option, None, Some}
 use Rattle.std.specs.List.{list_any}
 use Rattle.std.specs.Option.{option_or, option_map_or}
 use Rattle.std.specs.Str.{bytes_eq}
@@ -22,7 +24,9 @@ use Rattle.sql_parse.specs.declared.statement.Term.TheVariants as terms
 use Rattle.sql_parse.specs.declared.statement.Total.{Total}
 use Rattle.sql_parse.specs.declared.statement.Total.TheVariants as totals
 use Rattle.sql_check.specs.declared.fault.CheckFault.{CheckFault}
-use Rattle.sql_check.specs.declared.fault.CheckFault.TheVariants.{NoTable, NoColumn, Order as WrongOrder, Kind as WrongKind, KeyFixed, Twice, Count, Length}
+use Rattle.sql_check.specs.declared.fault.CheckFault.TheVariants.{NoTable, NoColumn, Order as WrongOrder}
+use Rattle.sql_check.specs.declared.fault.CheckFault.TheVariants.{Kind as WrongKind, KeyFixed, Twice, Count}
+use Rattle.sql_check.specs.declared.fault.CheckFault.TheVariants.{Length}
 use Rattle.sql_check.specs.Columns.{def_named, kind_named, is_key, kind_of}
 
 -- the fault where the test holds
@@ -42,7 +46,8 @@ first_fault fault_of parts = first_of (map fault_of parts)
 abbrev pub of_column : List Column → List ℕ → (Kind → Option CheckFault) → Option CheckFault
 of_column columns name test = option_map_or test (kind_named columns name) (Some NoColumn)
 
--- what is given to a column: KIND where it is of the other kind, LENGTH where a text may have more bytes than the column's
+-- what is given to a column: KIND where it is of the other kind,
+-- LENGTH where a text may have more bytes than the column's
 abbrev pub given_fault : Kind → Kind → Option CheckFault
 given_fault kinds.Int kinds.Int = None
 given_fault kinds.Int (kinds.Text given) = Some WrongKind
@@ -53,7 +58,8 @@ given_fault (kinds.Text limit) (kinds.Text given) = fault_if (nat_lt limit given
 abbrev pub values_fault : List Column → List Value → Option CheckFault
 values_fault [] values = None
 values_fault (column ∷ columns) [] = None
-values_fault (column ∷ columns) (value ∷ values) = option_or (given_fault column.kind (kind_of value)) (values_fault columns values)
+values_fault (column ∷ columns) (value ∷ values) =
+    option_or (given_fault column.kind (kind_of value)) (values_fault columns values)
 
 -- a row of an INSERT: COUNT, and then its values
 abbrev pub row_fault : List Column → List Value → Option CheckFault
@@ -73,7 +79,8 @@ all_shown_fault columns (showns.Columns names) = first_fault (shown_fault column
 -- a total: of a sum NO COLUMN, and KIND where the column holds texts
 abbrev pub total_fault : List Column → Total → Option CheckFault
 total_fault columns totals.Count = None
-total_fault columns (totals.Sum name) = of_column columns name (λ kind. fault_if (not (is_int kind)) WrongKind)
+total_fault columns (totals.Sum name) =
+    of_column columns name (λ kind. fault_if (not (is_int kind)) WrongKind)
 
 -- both hold whole numbers, or both texts
 abbrev pub is_same_kind : Kind → Kind → Bool
@@ -84,7 +91,9 @@ is_same_kind (kinds.Text limit) kinds.Int = false
 
 -- a condition: NO COLUMN, KIND
 abbrev pub condition_fault : List Column → Condition → Option CheckFault
-condition_fault columns condition = of_column columns condition.column (λ kind. fault_if (not (is_same_kind kind (kind_of condition.value))) WrongKind)
+condition_fault columns condition =
+    of_column columns condition.column
+    (λ kind. fault_if (not (is_same_kind kind (kind_of condition.value))) WrongKind)
 
 -- the columns that assignments name
 abbrev pub column_names : List Change → List (List ℕ)
@@ -122,7 +131,9 @@ terms_of change = change.first ∷ map (λ (s : Step). s.term) change.further
 
 -- the expression of an assignment, whose column is there
 abbrev pub expression_fault : List Column → Change → Option CheckFault
-expression_fault columns change = of_column columns change.column (λ kind. first_fault (term_fault columns kind (is_none_left change.further)) (terms_of change))
+expression_fault columns change =
+    of_column columns change.column
+    (λ kind. first_fault (term_fault columns kind (is_none_left change.further)) (terms_of change))
 
 -- an assignment behind those of other columns
 abbrev pub change_fault : TableDef → List (List ℕ) → Change → Option CheckFault
@@ -133,12 +144,14 @@ change_fault def earlier change = first_of (
 -- the assignments, where these are the columns of those before them
 abbrev pub changes_fault : TableDef → List (List ℕ) → List Change → Option CheckFault
 changes_fault def earlier [] = None
-changes_fault def earlier (change ∷ changes) = option_or (change_fault def earlier change) (changes_fault def (earlier ++ change.column ∷ []) changes)
+changes_fault def earlier (change ∷ changes) =
+    option_or (change_fault def earlier change) (changes_fault def (earlier ++ change.column ∷ []) changes)
 
 -- ORDER BY: NO COLUMN, ORDER where the column isn't the key
 abbrev pub order_fault : TableDef → Option Order → Option CheckFault
 order_fault def None = None
-order_fault def (Some order) = of_column def.columns order.column (λ kind. fault_if (not (is_key def order.column)) WrongOrder)
+order_fault def (Some order) =
+    of_column def.columns order.column (λ kind. fault_if (not (is_key def order.column)) WrongOrder)
 
 -- the first fault of a statement on this table, from left to right, with WHERE last but one and ORDER BY last
 abbrev pub fault_in : TableDef → Statement → Option CheckFault
@@ -173,7 +186,8 @@ table_of statements.Rollback = None
 
 -- NO TABLE where no table has the name, else the first fault in it
 abbrev pub fault_on : List TableDef → Statement → List ℕ → Option CheckFault
-fault_on tables statement name = option_map_or (λ def. fault_in def statement) (def_named tables name) (Some NoTable)
+fault_on tables statement name =
+    option_map_or (λ def. fault_in def statement) (def_named tables name) (Some NoTable)
 
 -- the first fault of a statement by name, kind or count; none where it is on no table
 abbrev pub misfit : List TableDef → Statement → Option CheckFault

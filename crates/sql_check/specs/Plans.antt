@@ -1,5 +1,6 @@
 -- The plan of a statement that fits the tables.
-use Rattle.std.specs.Prelude.{◌≡◌, ◌⊎◌, ℕ, Bool, true, false, List, [], ◌∷◌, length, map, Option, None, Some, Result, Ok, Err}
+use Rattle.std.specs.Prelude.{◌≡◌, ◌⊎◌, ℕ, Bool, true, false, List, [], ◌∷◌, length, map, Option, None, Some}
+use Rattle.std.specs.Prelude.{Result, Ok, Err}
 use Rattle.std.specs.List.{range_with_len}
 use Rattle.std.specs.Option.{option_map_or}
 use Rattle.row_types.specs.declared.definition.Kind.{Kind}
@@ -81,7 +82,8 @@ text_term columns (terms.Column name) = texts.Column (column_number columns name
 
 -- an assignment to column number n, which has this kind
 abbrev pub assigned : List Column → ℕ → Kind → Change → Assignment
-assigned columns n kinds.Int change = assignments.Int n (int_term columns change.first) (map (int_step columns) change.further)
+assigned columns n kinds.Int change =
+    assignments.Int n (int_term columns change.first) (map (int_step columns) change.further)
 assigned columns n (kinds.Text limit) change = assignments.Text n (text_term columns change.first)
 
 -- the kind, whole numbers where there is none
@@ -91,7 +93,8 @@ kind_or (Some kind) = kind
 
 -- an assignment, by the kind of its column
 abbrev pub assignment_of : List Column → Change → Assignment
-assignment_of columns change = assigned columns (column_number columns change.column) (kind_or (kind_named columns change.column)) change
+assignment_of columns change =
+    assigned columns (column_number columns change.column) (kind_or (kind_named columns change.column)) change
 
 -- the plan of a statement on table number n, which has this definition
 abbrev pub plan_on : ℕ → TableDef → Statement → Plan
@@ -136,7 +139,8 @@ number_of tables statement = option_map_or (table_number tables) (table_of state
 
 -- the plan of a statement that fits these tables
 abbrev pub plan_of : List TableDef → Statement → Plan
-plan_of tables statement = plan_on (number_of tables statement) (def_at tables (number_of tables statement)) statement
+plan_of tables statement =
+    plan_on (number_of tables statement) (def_at tables (number_of tables statement)) statement
 
 -- the plan, unless there is a fault
 abbrev pub plan_unless : Option CheckFault → Plan → Result Plan CheckFault

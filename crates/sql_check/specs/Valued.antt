@@ -38,7 +38,8 @@ abbrev pub HasValues : Statement → Type 0
 HasValues (statements.Insert s) = AllByRecursion (AllByRecursion IsValue) s.rows
 HasValues (statements.Select s) = AllByRecursion IsConditionOfValue s.conditions
 HasValues (statements.Totals s) = AllByRecursion IsConditionOfValue s.conditions
-HasValues (statements.Update s) = AllByRecursion IsChangeOfValues s.changes × AllByRecursion IsConditionOfValue s.conditions
+HasValues (statements.Update s) =
+    AllByRecursion IsChangeOfValues s.changes × AllByRecursion IsConditionOfValue s.conditions
 HasValues (statements.Delete s) = AllByRecursion IsConditionOfValue s.conditions
 HasValues (statements.Create created) = ⊤
 HasValues statements.Begin = ⊤

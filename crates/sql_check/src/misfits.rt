@@ -4,8 +4,13 @@ ghost use Rattle.std.specs.Option.{option_copied};
 ghost use Rattle.std.specs.List.{AllByRecursion, list_any};
 ghost use Rattle.std.specs.Str.{bytes_eq};
 ghost use Rattle.sql_check.specs.Columns.{kind_of};
-ghost use Rattle.sql_check.specs.Misfits.{fault_if, given_fault, values_fault, row_fault, first_fault, shown_fault, all_shown_fault, total_fault, is_same_kind, condition_fault, column_names, target_fault, alone_or, term_fault, terms_of, expression_fault, change_fault, changes_fault, order_fault, fault_in, is_none_left, table_of};
-ghost use Rattle.sql_check.specs.Valued.{IsValue, IsTermOfValue, IsChangeOfValues, IsConditionOfValue, HasValues};
+ghost use Rattle.sql_check.specs.Misfits.{fault_if, given_fault, values_fault, row_fault, first_fault};
+ghost use Rattle.sql_check.specs.Misfits.{shown_fault, all_shown_fault, total_fault, is_same_kind};
+ghost use Rattle.sql_check.specs.Misfits.{condition_fault, column_names, target_fault, alone_or, term_fault};
+ghost use Rattle.sql_check.specs.Misfits.{terms_of, expression_fault, change_fault, changes_fault};
+ghost use Rattle.sql_check.specs.Misfits.{order_fault, fault_in, is_none_left, table_of};
+ghost use Rattle.sql_check.specs.Valued.{IsValue, IsTermOfValue, IsChangeOfValues, IsConditionOfValue};
+ghost use Rattle.sql_check.specs.Valued.{HasValues};
 ghost use Rattle.sql_check.specs.declared.fault.CheckFault.TheVariants.{Length as TooLong};
 ghost use Rattle.row_types.specs.declared.definition.Kind.TheVariants.{Text as TextOf};
 

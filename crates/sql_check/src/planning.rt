@@ -2,7 +2,8 @@
 ghost use Rattle.std.specs.Prelude.{◌≡◌, ◌≤◌, length, map, IfOk};
 ghost use Rattle.std.specs.List.{range_with_len};
 ghost use Rattle.sql_check.specs.Columns.{column_number};
-ghost use Rattle.sql_check.specs.Plans.{test_of, columns_shown, falls, total_plan, int_term, int_step, text_term, assignment_of, plan_on};
+ghost use Rattle.sql_check.specs.Plans.{test_of, columns_shown, falls, total_plan, int_term, int_step};
+ghost use Rattle.sql_check.specs.Plans.{text_term, assignment_of, plan_on};
 ghost use Rattle.sql_parse.specs.declared.statement.Statement.TheVariants as statements;
 
 use crate::OutOfMemory;

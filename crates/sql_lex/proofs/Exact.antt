@@ -118,14 +118,14 @@ number_stands_so b bs lexeme n digit r e =
       some = omega (arith, whole);
     }
 
-some_of : {A B : Type 0} (f : A → B) (o : Option A) (y : B) → option_map f o ≡ Some y → (x : A) × (o ≡ Some x) × (f x ≡ y)
-some_of f None y e = absurd (cc)
-some_of f (Some x) y e = (x, refl, cc)
+some_under : {A B : Type 0} (f : A → B) (o : Option A) (y : B) → option_map f o ≡ Some y → (x : A) × (o ≡ Some x) × (f x ≡ y)
+some_under f None y e = absurd (cc)
+some_under f (Some x) y e = (x, refl, cc)
 
 literal_stands : (b : ℕ) (bs : List ℕ) (lexeme : Lexeme) (n : ℕ) → b ≡ 39 → literal_front bs ≡ Some (lexeme, n) → Stands (b ∷ bs) lexeme n
 unfolding literal_front
 literal_stands b bs lexeme n quote e =
-    let o = some_of (λ (m : ℕ). (Literal (take m bs), m + 2)) (closes false bs) (lexeme, n) e in
+    let o = some_under (λ (m : ℕ). (Literal (take m bs), m + 2)) (closes false bs) (lexeme, n) e in
     let m = o.0 in
     let found = closing false bs m o.1 in
     let parts = some_pair (Literal (take m bs)) lexeme (m + 2) n (ap Some o.2) in
@@ -204,7 +204,7 @@ sign_shown (b ∷ c ∷ cs) lexeme s n (two spelled nonzero ends) some is = reco
 sign_stands : (b : ℕ) (bs : List ℕ) (lexeme : Lexeme) (n : ℕ) → sign_front (b ∷ bs) ≡ Some (lexeme, n) → Stands (b ∷ bs) lexeme n
 unfolding sign_front
 sign_stands b bs lexeme n e =
-    let o = some_of (λ (x : Mark × ℕ). (Sign x.0, x.1)) (sign_of b (get_or bs 0 0)) (lexeme, n) e in
+    let o = some_under (λ (x : Mark × ℕ). (Sign x.0, x.1)) (sign_of b (get_or bs 0 0)) (lexeme, n) e in
     let parts = some_pair (Sign o.0.0) lexeme o.0.1 n (ap Some o.2) in
     let len = parts.1 in
     subst (λ m. Stands (b ∷ bs) lexeme m) len (sign_shown (b ∷ bs) lexeme o.0.0 o.0.1 (sign_read b (get_or bs 0 0) o.0.0 o.0.1 o.1) (omega arith) parts.0)

@@ -1,7 +1,11 @@
 -- How the words of the language are written, in small letters.
 use Rattle.std.specs.Prelude.{ℕ, List, codes}
 use Rattle.sql_lex.specs.declared.keyword.Keyword.{Keyword}
-use Rattle.sql_lex.specs.declared.keyword.Keyword.TheVariants.{And, Asc, Begin, Bigint, By, Checkpoint, Commit, Count, Create, Delete, Desc, From, Insert, Int, Integer, Into, Key, Limit, Order, Primary, Rollback, Select, Set, Sum, Table, Text, Update, Values, Varchar, Where}
+use Rattle.sql_lex.specs.declared.keyword.Keyword.TheVariants.{And, Asc, Begin, Bigint, By, Checkpoint}
+use Rattle.sql_lex.specs.declared.keyword.Keyword.TheVariants.{Commit, Count, Create, Delete, Desc, From}
+use Rattle.sql_lex.specs.declared.keyword.Keyword.TheVariants.{Insert, Int, Integer, Into, Key, Limit, Order}
+use Rattle.sql_lex.specs.declared.keyword.Keyword.TheVariants.{Primary, Rollback, Select, Set, Sum, Table}
+use Rattle.sql_lex.specs.declared.keyword.Keyword.TheVariants.{Text, Update, Values, Varchar, Where}
 
 -- the letters of a keyword, small ones
 abbrev pub letters : Keyword → List ℕ

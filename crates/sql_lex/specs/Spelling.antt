@@ -1,13 +1,16 @@
 -- How each token is written, and what may not follow it.
-use Rattle.std.specs.Prelude.{◌≡◌, ℕ, ◌+◌, ◌-◌, ◌*◌, ◌^◌, min, Bool, false, ◌&&◌, ◌||◌, ◌==◌, nat_le, nat_lt, IsTrue, ◌⊎◌, List, [], ◌∷◌, ◌++◌, map, fold, codes, if◌then◌else◌, ◌≢◌}
+use Rattle.std.specs.Prelude.{◌≡◌, ℕ, ◌+◌, ◌-◌, ◌*◌, ◌^◌, min, Bool, false, ◌&&◌, ◌||◌, ◌==◌, nat_le, nat_lt}
+use Rattle.std.specs.Prelude.{IsTrue, ◌⊎◌, List, [], ◌∷◌, ◌++◌, map, fold, codes, if◌then◌else◌, ◌≢◌}
 use Rattle.std.specs.List.{flat_map, list_all}
 use Rattle.std.specs.Char.{to_ascii_lowercase, is_ascii_digit, is_ascii_alphabetic}
 use Rattle.sql_lex.specs.Letters.{letters}
 use Rattle.sql_lex.specs.declared.keyword.Keyword.{Keyword}
 use Rattle.sql_lex.specs.declared.token.Sign.{Sign as Mark}
-use Rattle.sql_lex.specs.declared.token.Sign.TheVariants.{Open, Close, Comma, Star, Plus, Minus, Equal, NotEqual, Less, LessEqual, Greater, GreaterEqual}
+use Rattle.sql_lex.specs.declared.token.Sign.TheVariants.{Open, Close, Comma, Star, Plus, Minus, Equal}
+use Rattle.sql_lex.specs.declared.token.Sign.TheVariants.{NotEqual, Less, LessEqual, Greater, GreaterEqual}
 
--- a token without where it lies in memory: a keyword; a name's bytes; a number; the bytes between a literal's quotes; a sign
+-- a token without where it lies in memory: a keyword; a name's
+-- bytes; a number; the bytes between a literal's quotes; a sign
 pub data Lexeme : Type 0 where
   Word : Keyword → Lexeme
   Name : List ℕ → Lexeme
@@ -63,7 +66,8 @@ SpellsSign GreaterEqual bytes = bytes ≡ codes ">="
 -- these bytes are this token: a keyword in any case, a name that is no keyword, and so on
 abbrev pub Spells : Lexeme → List ℕ → Type 0
 Spells (Word keyword) bytes = IsWord bytes × (map to_ascii_lowercase bytes ≡ letters keyword)
-Spells (Name name) bytes = IsWord bytes × (bytes ≡ name) × ((k : Keyword) → map to_ascii_lowercase bytes ≢ letters k)
+Spells (Name name) bytes =
+    IsWord bytes × (bytes ≡ name) × ((k : Keyword) → map to_ascii_lowercase bytes ≢ letters k)
 Spells (Number n) bytes = IsDigits bytes × (n ≡ min (number_of bytes) (2 ^ 64 - 1))
 Spells (Literal raw) bytes = IsQuoted raw × (bytes ≡ 39 ∷ (raw ++ 39 ∷ []))
 Spells (Sign sign) bytes = SpellsSign sign bytes

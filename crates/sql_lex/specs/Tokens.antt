@@ -1,5 +1,6 @@
 -- The tokens of a text, each with its place, and what may stand between them.
-use Rattle.std.specs.Prelude.{◌≡◌, ◌⊎◌, ℕ, ◌+◌, Bool, false, not, ◌&&◌, ◌||◌, ◌==◌, IsTrue, List, [], ◌∷◌, ◌++◌, length}
+use Rattle.std.specs.Prelude.{◌≡◌, ◌⊎◌, ℕ, ◌+◌, Bool, false, not, ◌&&◌, ◌||◌, ◌==◌, IsTrue, List, [], ◌∷◌}
+use Rattle.std.specs.Prelude.{◌++◌, length}
 use Rattle.std.specs.List.{concat, list_all, AllByRecursion}
 use Rattle.sql_lex.specs.Spelling.{Lexeme, IsToken}
 
@@ -27,7 +28,8 @@ pub record IsGap (bytes : List ℕ) : Type 0 where
 
 -- what may stand behind the last token: a gap, or a gap and a comment that ends with the text
 abbrev pub IsLastGap : List ℕ → Type 0
-IsLastGap bytes = IsGap bytes ⊎ ((gap line : List ℕ) × (bytes ≡ gap ++ 45 ∷ 45 ∷ line) × IsGap gap × IsLine line)
+IsLastGap bytes =
+    IsGap bytes ⊎ ((gap line : List ℕ) × (bytes ≡ gap ++ 45 ∷ 45 ∷ line) × IsGap gap × IsLine line)
 
 -- two hyphens begin a comment
 abbrev pub opens_comment : List ℕ → Bool
@@ -45,15 +47,19 @@ pub record Item : Type 0 where
   pub lexeme : Lexeme
   pub at : ℕ
 
--- The text, which ends at the place `end`, begins with these tokens, each behind a gap, and `rest` is behind the last.
+-- The text, which ends at the place `end`, begins with these
+-- tokens, each behind a gap, and `rest` is behind the last.
 abbrev pub Begins : ℕ → List Item → List ℕ → List ℕ → Type 0
 Begins end [] text rest = text ≡ rest
 Begins end (item ∷ items) text rest =
-    (gap bytes after : List ℕ) × (text ≡ gap ++ (bytes ++ after)) × IsGap gap × IsToken item.lexeme bytes after × (item.at + length (bytes ++ after) ≡ end) × Begins end items after rest
+    (gap bytes after : List ℕ) × (text ≡ gap ++ (bytes ++ after)) × IsGap gap
+    × IsToken item.lexeme bytes after × (item.at + length (bytes ++ after) ≡ end)
+    × Begins end items after rest
 
 -- no token stands at the front
 abbrev pub NoToken : List ℕ → Type 0
-NoToken text = (lexeme : Lexeme) (bytes after : List ℕ) → text ≡ bytes ++ after → IsToken lexeme bytes after → ⊥
+NoToken text =
+    (lexeme : Lexeme) (bytes after : List ℕ) → text ≡ bytes ++ after → IsToken lexeme bytes after → ⊥
 
 -- the text, which begins at the place `base`, is these tokens
 pub record AreTokens (base : ℕ) (text : List ℕ) (items : List Item) : Type 0 where

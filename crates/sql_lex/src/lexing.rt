@@ -32,7 +32,8 @@ impl From<OutOfMemory> for LexFault {
 
 /// The tokens of `text`, which begins at the place `base` of the script.
 ///
-/// `Syntax` comes exactly where the text isn't a list of tokens, with the first byte of the first thing that isn't one.
+/// `Syntax` comes exactly where the text isn't a list of tokens,
+/// with the first byte of the first thing that isn't one.
 pub fn lex<'a>(alloc: Global, text: &'a str, base: u64) -> Result<Vec<Token<'a>>, LexFault>
     requires { base + length text.now < 2 ^ 63 }
     ensures tokens { IfOk result (λ tokens. AreTokens base text.now (items_of tokens.items)) }

@@ -1,9 +1,11 @@
 // The token at a place of a text.
-ghost use Rattle.std.specs.Prelude.{◌≡◌, ◌+◌, ◌-◌, ◌<◌, ◌≤◌, ◌^◌, min, false, IsTrue, IfSome, length, drop, Some, option_map, slice_index};
+ghost use Rattle.std.specs.Prelude.{◌≡◌, ◌+◌, ◌-◌, ◌<◌, ◌≤◌, ◌^◌, min, false, IsTrue, IfSome, length, drop};
+ghost use Rattle.std.specs.Prelude.{Some, option_map, slice_index};
 ghost use Rattle.std.specs.List.{list_all};
 ghost use Rattle.std.specs.Char.{is_ascii_digit, is_ascii_alphabetic};
 ghost use Rattle.sql_lex.specs.Spelling.{number_of};
-ghost use Rattle.sql_lex.specs.Reading.{closes, sign_of, front, word_front, number_front, literal_front, sign_front};
+ghost use Rattle.sql_lex.specs.Reading.{closes, sign_of, front, word_front, number_front, literal_front};
+ghost use Rattle.sql_lex.specs.Reading.{sign_front};
 ghost use Rattle.sql_lex.specs.FoundToken.{seen};
 
 use crate::bytes::{digits_len, is_allowed, word_len};

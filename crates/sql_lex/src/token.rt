@@ -36,7 +36,7 @@ pub enum TokenKind<'a> {
     Word(Keyword),
     /// Any other word, of any length, as it is written.
     Name(&'a str),
-    /// A number without sign. One over `u64::MAX` is told as `u64::MAX`.
+    /// A number without sign. One over `u64::MAX` is reported as `u64::MAX`.
     Number(u64),
     /// A text literal: what stands between its quotes, each quote in it still written twice.
     Literal(&'a str),

@@ -5,6 +5,7 @@ use Rattle.sql_lex.specs.Spelling.{Lexeme}
 use Rattle.sql_lex.specs.Tokens.{Item, AreTokens, AreTokensUpTo}
 use Rattle.sql_parse.specs.Phrases.{Phrase}
 use Rattle.sql_parse.specs.Faults.{lexemes, IsText, BeginsPhrase, StopsPhrase, IsSigned, StopsAtToken, StopsAtMinus, EndsEarly, EndsAtNoToken, AreFront, IsFault}
+use Rattle.sql_parse.proofs.Exact.{heads}
 
 -- the laws of tokens
 abbrev pub OneList : Type 0
@@ -21,9 +22,6 @@ data Compared (a b : List Item) (t u : Item) : Type 0 where
   same : a ≡ b → t ≡ u → Compared a b t u
   deeper : (c : List Item) → b ≡ a ++ t ∷ c → Compared a b t u
   shallower : (c : List Item) → a ≡ b ++ u ∷ c → Compared a b t u
-
-heads : (x y : Item) (xs ys : List Item) → ◌≡◌ {A = List Item} (x ∷ xs) (y ∷ ys) → (x ≡ y) × (xs ≡ ys)
-heads x y xs ys e = (cc, cc)
 
 one_behind : (x y : Item) (a b : List Item) (t u : Item) → x ≡ y → Compared a b t u → Compared (x ∷ a) (y ∷ b) t u
 one_behind x y a b t u e (same f g) = same (λ i. e i ∷ f i) g

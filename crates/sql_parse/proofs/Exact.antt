@@ -198,14 +198,14 @@ pub record Parts (items : List Item) (a b : List Lexeme) : Type 0 where
   pub front_is : lexemes front ≡ a
   pub back_is : lexemes back ≡ b
 
-head_same : (x y : Lexeme) (xs ys : List Lexeme) → ◌≡◌ {A = List Lexeme} (x ∷ xs) (y ∷ ys) → (x ≡ y) × (xs ≡ ys)
-head_same x y xs ys e = (cc, cc)
+pub heads : {A : Type 0} (x y : A) (xs ys : List A) → ◌≡◌ {A = List A} (x ∷ xs) (y ∷ ys) → (x ≡ y) × (xs ≡ ys)
+heads x y xs ys e = (cc, cc)
 
 pub parts : (items : List Item) (a b : List Lexeme) → lexemes items ≡ a ++ b → Parts items a b
 parts items [] b e = record { front = []; back = items; split = refl; front_is = refl; back_is = e }
 parts [] (x ∷ xs) b e = absurd (cc)
 parts (t ∷ ts) (x ∷ xs) b e =
-    let same = head_same t.lexeme x (lexemes ts) (xs ++ b) e in
+    let same = heads t.lexeme x (lexemes ts) (xs ++ b) e in
     let rest = parts ts xs b same.1 in
     record { front = t ∷ rest.front; back = rest.back; split = ap (λ l. t ∷ l) rest.split; front_is = λ i. same.0 i ∷ rest.front_is i; back_is = rest.back_is }
 

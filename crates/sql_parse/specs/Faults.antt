@@ -25,7 +25,8 @@ module _ {X : Type 0} (N : Phrase X) where
   abbrev pub BeginsPhrase : List Lexeme → Type 0
   BeginsPhrase tokens = (more : List Lexeme) × (value : X) × N (tokens ++ more) value
 
-  -- The first token with which none goes on. A name over 32 bytes is one wherever it stands, and so are a number out of range and a length outside 1 to 4,093.
+  -- The first token with which none goes on. A name over 32 bytes is one wherever
+  -- it stands, and so are a number out of range and a length outside 1 to 4,093.
   pub record StopsPhrase (front : List Item) (token : Item) : Type 0 where
     pub begins : BeginsPhrase (lexemes front)
     pub none : BeginsPhrase (lexemes front ++ token.lexeme ∷ []) → ⊥
@@ -69,11 +70,13 @@ module _ {X : Type 0} (N : Phrase X) where
     pub stops : AreTokensUpTo base text items at
     pub begins : BeginsPhrase (lexemes items)
 
-  -- the text, which begins at the place `base`, is no value, and this is the first place at which it isn't one
+  -- the text, which begins at the place `base`, is no value,
+  -- and this is the first place at which it isn't one
   pub record IsFault (base : ℕ) (text : List ℕ) (at : ℕ) : Type 0 where
     pub items : List Item
     pub tokens : AreFront base text items
-    pub cause : (StopsAtToken items at ⊎ StopsAtMinus items at) ⊎ (EndsEarly base text items at ⊎ EndsAtNoToken base text items at)
+    pub cause : (StopsAtToken items at ⊎ StopsAtMinus items at)
+        ⊎ (EndsEarly base text items at ⊎ EndsAtNoToken base text items at)
 
 -- a fact of the place, where the fault is one of the text
 abbrev pub IfSyntax : ParseFault → (ℕ → Type 0) → Type 0

@@ -1,5 +1,6 @@
 -- The grammar: which tokens are which statement, one rule for each of its lines.
-use Rattle.std.specs.Prelude.{ℕ, ◌+◌, ◌^◌, min, Bool, true, false, ◌&&◌, ◌||◌, nat_le, nat_lt, if◌then◌else◌, ℤ, pos, neg_ℤ, List, [], ◌∷◌, length, map, Option, None, Some}
+use Rattle.std.specs.Prelude.{ℕ, ◌+◌, ◌^◌, min, Bool, true, false, ◌&&◌, ◌||◌, nat_le, nat_lt, if◌then◌else◌}
+use Rattle.std.specs.Prelude.{ℤ, pos, neg_ℤ, List, [], ◌∷◌, length, map, Option, None, Some}
 use Rattle.sql_lex.specs.Spelling.{Lexeme, Word, Name, Number, Literal, Sign}
 use Rattle.sql_lex.specs.declared.keyword.Keyword.{Keyword}
 use Rattle.sql_lex.specs.declared.keyword.Keyword.TheVariants as words
@@ -24,7 +25,8 @@ use Rattle.sql_parse.specs.declared.statement.Comparison.TheVariants as comparis
 use Rattle.sql_parse.specs.declared.statement.Shown.TheVariants as showns
 use Rattle.sql_parse.specs.declared.statement.Term.TheVariants as terms
 use Rattle.sql_parse.specs.declared.statement.Total.TheVariants as totals
-use Rattle.sql_parse.specs.Phrases.{Phrase, One, Nothing, Then, Either, Repeated, first, second, paired, prepend}
+use Rattle.sql_parse.specs.Phrases.{Phrase, One, Nothing, Then, Either, Repeated, first, second, paired}
+use Rattle.sql_parse.specs.Phrases.{prepend}
 use Rattle.sql_parse.specs.Quotes.{unquoted}
 use Rattle.sql_parse.specs.Words.{is_word, is_sign}
 
@@ -99,7 +101,9 @@ insert_of table rows = statements.Insert (record { table = table; rows = rows })
 
 -- insert = INSERT INTO name VALUES row { , row }
 abbrev pub IsInsert : Phrase Statement
-IsInsert = IsBehind words.Insert (IsBehind words.Into (Then insert_of IsName (IsBehind words.Values (IsListed IsRow))))
+IsInsert =
+    IsBehind words.Insert
+    (IsBehind words.Into (Then insert_of IsName (IsBehind words.Values (IsListed IsRow))))
 
 -- op is one of = <> < <= > >=
 abbrev pub comparison_of_sign : Mark → Option Comparison
@@ -166,7 +170,9 @@ change_of column expression = record { column = column; first = expression.0; fu
 
 -- set = name = expr, and expr = term { ( + | - ) term }
 abbrev pub IsChange : Phrase Change
-IsChange = Then change_of IsName (Then second (One (sign signs.Equal)) (Then paired IsTerm (Repeated step_sign step_of IsTerm)))
+IsChange =
+    Then change_of IsName
+    (Then second (One (sign signs.Equal)) (Then paired IsTerm (Repeated step_sign step_of IsTerm)))
 
 -- the UPDATE of this table
 abbrev pub update_of : List ℕ → List Change × List Condition → Statement
@@ -174,7 +180,9 @@ update_of table rest = statements.Update (record { table = table; changes = rest
 
 -- update = UPDATE name SET set { , set } [ where ]
 abbrev pub IsUpdate : Phrase Statement
-IsUpdate = IsBehind words.Update (Then update_of IsName (IsBehind words.Set (Then paired (IsListed IsChange) IsWhere)))
+IsUpdate =
+    IsBehind words.Update
+    (Then update_of IsName (IsBehind words.Set (Then paired (IsListed IsChange) IsWhere)))
 
 -- the DELETE from this table
 abbrev pub delete_of : List ℕ → List Condition → Statement
@@ -194,11 +202,13 @@ shown_columns _ names = showns.Columns names
 
 -- plain = * | name { , name }
 abbrev pub IsShown : Phrase Shown
-IsShown = Either (Then all_columns (One (sign signs.Star)) (Nothing tt)) (Made shown_columns (IsListed IsName))
+IsShown =
+    Either (Then all_columns (One (sign signs.Star)) (Nothing tt)) (Made shown_columns (IsListed IsName))
 
 -- [ ASC | DESC ]: whether it falls
 abbrev pub IsDirection : Phrase Bool
-IsDirection = Either (IsBehind words.Asc (Nothing false)) (Either (IsBehind words.Desc (Nothing true)) (Nothing false))
+IsDirection =
+    Either (IsBehind words.Asc (Nothing false)) (Either (IsBehind words.Desc (Nothing true)) (Nothing false))
 
 -- the order of this column
 abbrev pub order_of : List ℕ → Bool → Option Order
@@ -219,11 +229,15 @@ IsLimit = Either (IsBehind words.Limit (One limit_of)) (Nothing None)
 
 -- the SELECT of these columns
 abbrev pub select_of : Shown → List ℕ × (List Condition × (Option Order × Option ℕ)) → Statement
-select_of shown rest = statements.Select (record { shown = shown; table = rest.0; conditions = rest.1.0; order = rest.1.1.0; limit = rest.1.1.1 })
+select_of shown rest =
+    statements.Select
+    (record { shown = shown; table = rest.0; conditions = rest.1.0; order = rest.1.1.0; limit = rest.1.1.1 })
 
 -- plain FROM name [ where ] [ ORDER BY name [ ASC | DESC ] ] [ LIMIT number ]
 abbrev pub IsPlain : Phrase Statement
-IsPlain = Then select_of IsShown (IsBehind words.From (Then paired IsName (Then paired IsWhere (Then paired IsOrder IsLimit))))
+IsPlain =
+    Then select_of IsShown
+    (IsBehind words.From (Then paired IsName (Then paired IsWhere (Then paired IsOrder IsLimit))))
 
 -- how many rows there are
 abbrev pub count_all : Unit {0} → Unit {0} → Total
@@ -235,7 +249,9 @@ sum_of _ column = totals.Sum column
 
 -- total = COUNT ( * ) | SUM ( name )
 abbrev pub IsTotal : Phrase Total
-IsTotal = Either (IsBehind words.Count (IsEnclosed (Then count_all (One (sign signs.Star)) (Nothing tt)))) (IsBehind words.Sum (IsEnclosed (Made sum_of IsName)))
+IsTotal =
+    Either (IsBehind words.Count (IsEnclosed (Then count_all (One (sign signs.Star)) (Nothing tt))))
+    (IsBehind words.Sum (IsEnclosed (Made sum_of IsName)))
 
 -- the SELECT of these totals
 abbrev pub totals_of : List Total → List ℕ × List Condition → Statement
@@ -259,7 +275,8 @@ text_word lexeme = where_true (is_word words.Text lexeme || is_word words.Varcha
 
 -- INT, INTEGER or BIGINT
 abbrev pub int_word : Lexeme → Option (Unit {0})
-int_word lexeme = where_true (is_word words.Int lexeme || (is_word words.Integer lexeme || is_word words.Bigint lexeme)) tt
+int_word lexeme =
+    where_true (is_word words.Int lexeme || (is_word words.Integer lexeme || is_word words.Bigint lexeme)) tt
 
 -- a length from 1 to 4,093
 abbrev pub text_kind : Lexeme → Option Kind
@@ -268,7 +285,9 @@ text_kind _ = None
 
 -- type = INT | INTEGER | BIGINT | ( TEXT | VARCHAR ) ( number )
 abbrev pub IsType : Phrase Kind
-IsType = Either (Then second (One int_word) (Nothing kinds.Int)) (Then second (One text_word) (IsEnclosed (One text_kind)))
+IsType =
+    Either (Then second (One int_word) (Nothing kinds.Int))
+    (Then second (One text_word) (IsEnclosed (One text_kind)))
 
 -- [ PRIMARY KEY ]: whether it stands
 abbrev pub IsMarked : Phrase Bool
@@ -282,7 +301,7 @@ column_of name rest = (record { name = name; kind = rest.0 }, rest.1)
 abbrev pub IsColumn : Phrase (Column × Bool)
 IsColumn = Then column_of IsName (Then paired IsType IsMarked)
 
--- the numbers of the columns that are marked, from this number on; from 255 on each is told as 255
+-- the numbers of the columns that are marked, from this number on; from 255 on each is reported as 255
 abbrev pub marks_of : ℕ → List (Column × Bool) → List ℕ
 marks_of n [] = []
 marks_of n (c ∷ cs) = if c.1 then min n 255 ∷ marks_of (n + 1) cs else marks_of (n + 1) cs
@@ -293,11 +312,13 @@ columns_of columns = map (λ (c : Column × Bool). c.0) columns
 
 -- the CREATE of this table
 abbrev pub create_of : List ℕ → List (Column × Bool) → Statement
-create_of name columns = statements.Create (record { name = name; columns = columns_of columns; keys = marks_of 0 columns })
+create_of name columns =
+    statements.Create (record { name = name; columns = columns_of columns; keys = marks_of 0 columns })
 
 -- create = CREATE TABLE name ( column { , column } )
 abbrev pub IsCreate : Phrase Statement
-IsCreate = IsBehind words.Create (IsBehind words.Table (Then create_of IsName (IsEnclosed (IsListed IsColumn))))
+IsCreate =
+    IsBehind words.Create (IsBehind words.Table (Then create_of IsName (IsEnclosed (IsListed IsColumn))))
 
 -- BEGIN | COMMIT | ROLLBACK
 abbrev pub block_word : Keyword → Option Statement
@@ -313,4 +334,5 @@ block_of _ = None
 
 -- statement = create | insert | select | update | delete | BEGIN | COMMIT | ROLLBACK
 abbrev pub IsStatement : Phrase Statement
-IsStatement = Either IsCreate (Either IsInsert (Either IsSelect (Either IsUpdate (Either IsDelete (One block_of)))))
+IsStatement =
+    Either IsCreate (Either IsInsert (Either IsSelect (Either IsUpdate (Either IsDelete (One block_of)))))

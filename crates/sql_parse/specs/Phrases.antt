@@ -18,7 +18,8 @@ pub record Nothing {X : Type 0} (default : X) (tokens : List Lexeme) (value : X)
   pub is : value ≡ default
 
 -- one phrase and then another, of whose values this one is made
-pub record Then {X Y Z : Type 0} (join : X → Y → Z) (N : Phrase X) (M : Phrase Y) (tokens : List Lexeme) (value : Z) : Type 0 where
+pub record Then {X Y Z : Type 0} (join : X → Y → Z) (N : Phrase X) (M : Phrase Y) (tokens : List Lexeme)
+    (value : Z) : Type 0 where
   pub front : List Lexeme
   pub back : List Lexeme
   pub first : X
@@ -33,9 +34,12 @@ abbrev pub Either : {X : Type 0} → Phrase X → Phrase X → List Lexeme → X
 Either N M tokens value = N tokens value ⊎ M tokens value
 
 -- any number of times a token that passes the test and then the phrase
-abbrev pub Repeated : {S X Z : Type 0} → (Lexeme → Option S) → (S → X → Z) → Phrase X → List Lexeme → List Z → Type 0
+abbrev pub Repeated : {S X Z : Type 0} → (Lexeme → Option S) → (S → X → Z) → Phrase X → List Lexeme → List Z
+    → Type 0
 Repeated test join N tokens [] = tokens ≡ []
-Repeated test join N tokens (z ∷ zs) = (front back : List Lexeme) × (tokens ≡ front ++ back) × Then join (One test) N front z × Repeated test join N back zs
+Repeated test join N tokens (z ∷ zs) =
+    (front back : List Lexeme) × (tokens ≡ front ++ back) × Then join (One test) N front z
+    × Repeated test join N back zs
 
 -- of two phrases the second tells
 abbrev pub second : {X Y : Type 0} → X → Y → Y

@@ -1,7 +1,8 @@
--- How the parser reads, a function for each rule: the value and what is left, or the place of the fault. That this reads the
--- grammar, and finds its first fault, is proved.
+-- How the parser reads, a function for each rule: the value and what is left, or the place of the fault. That
+-- this reads the grammar, and finds its first fault, is proved.
 use Prim.Native.Nat.{zero, suc}
-use Rattle.std.specs.Prelude.{ℕ, Bool, true, false, List, [], ◌∷◌, length, Option, None, Some, Result, Ok, Err, option_and_then, pos, neg_ℤ, nat_le, ◌^◌, if◌then◌else◌}
+use Rattle.std.specs.Prelude.{ℕ, Bool, true, false, List, [], ◌∷◌, length, Option, None, Some, Result, Ok}
+use Rattle.std.specs.Prelude.{Err, option_and_then, pos, neg_ℤ, nat_le, ◌^◌, if◌then◌else◌}
 use Rattle.sql_lex.specs.Spelling.{Lexeme, Number}
 use Rattle.sql_lex.specs.Tokens.{Item}
 use Rattle.sql_lex.specs.declared.keyword.Keyword.{Keyword}
@@ -24,7 +25,11 @@ use Rattle.sql_parse.specs.declared.statement.Step.{Step}
 use Rattle.sql_parse.specs.declared.statement.Term.{Term}
 use Rattle.sql_parse.specs.declared.statement.Total.{Total}
 use Rattle.sql_parse.specs.Phrases.{first, second, paired, prepend}
-use Rattle.sql_parse.specs.Grammar.{word, sign, name_of, plain_value, insert_of, comparison_of, condition_of, a_name, column_term, value_term, step_sign, step_of, change_of, update_of, delete_of, all_columns, shown_columns, order_of, limit_of, select_of, count_all, sum_of, totals_of, total_word, text_word, int_word, text_kind, column_of, create_of, block_of}
+use Rattle.sql_parse.specs.Grammar.{word, sign, name_of, plain_value, insert_of, comparison_of, condition_of}
+use Rattle.sql_parse.specs.Grammar.{a_name, column_term, value_term, step_sign, step_of, change_of, update_of}
+use Rattle.sql_parse.specs.Grammar.{delete_of, all_columns, shown_columns, order_of, limit_of, select_of}
+use Rattle.sql_parse.specs.Grammar.{count_all, sum_of, totals_of, total_word, text_word, int_word, text_kind}
+use Rattle.sql_parse.specs.Grammar.{column_of, create_of, block_of}
 
 -- the tokens that are left, and the place at which they end
 pub record Left : Type 0 where
@@ -83,7 +88,8 @@ chosen_at None p q left = q left
 chosen_at (Some _) p q left = p left
 
 -- the one phrase where the next token passes the test, else the other
-abbrev pub either_at : {X : Type 0} → (Lexeme → Option (Unit {0})) → (Left → Read X) → (Left → Read X) → Left → Read X
+abbrev pub either_at : {X : Type 0} → (Lexeme → Option (Unit {0})) → (Left → Read X) → (Left → Read X) → Left
+    → Read X
 either_at test p q left = chosen_at (option_and_then test (next_of left)) p q left
 
 -- nothing is read
@@ -91,17 +97,22 @@ abbrev pub nothing_at : {X : Type 0} → X → Left → Read X
 nothing_at default left = Ok (default, left)
 
 -- where the token was there, its phrase and then more of the same
-abbrev pub repeated_step : {S X Z : Type 0} → (S → X → Z) → (Left → Read X) → Option S → (Left → Read (List Z)) → Left → Read (List Z)
+abbrev pub repeated_step : {S X Z : Type 0} → (S → X → Z) → (Left → Read X) → Option S
+    → (Left → Read (List Z)) → Left → Read (List Z)
 repeated_step join p None again left = Ok ([], left)
-repeated_step join p (Some s) again left = p (rest_of left) >>= λ x. (again x.1 >>= λ zs. Ok (join s x.0 ∷ zs.0, zs.1))
+repeated_step join p (Some s) again left =
+    p (rest_of left) >>= λ x. (again x.1 >>= λ zs. Ok (join s x.0 ∷ zs.0, zs.1))
 
 -- any number of times a token and a phrase, at most so many times
-abbrev pub repeated_from : {S X Z : Type 0} → (Lexeme → Option S) → (S → X → Z) → (Left → Read X) → ℕ → Left → Read (List Z)
+abbrev pub repeated_from : {S X Z : Type 0} → (Lexeme → Option S) → (S → X → Z) → (Left → Read X) → ℕ → Left
+    → Read (List Z)
 repeated_from test join p zero left = Ok ([], left)
-repeated_from test join p (suc n) left = repeated_step join p (option_and_then test (next_of left)) (repeated_from test join p n) left
+repeated_from test join p (suc n) left =
+    repeated_step join p (option_and_then test (next_of left)) (repeated_from test join p n) left
 
 -- any number of times a token and a phrase, at most as often as there are tokens
-abbrev pub repeated_at : {S X Z : Type 0} → (Lexeme → Option S) → (S → X → Z) → (Left → Read X) → Left → Read (List Z)
+abbrev pub repeated_at : {S X Z : Type 0} → (Lexeme → Option S) → (S → X → Z) → (Left → Read X) → Left
+    → Read (List Z)
 repeated_at test join p left = repeated_from test join p (length left.items) left
 
 -- one phrase and then another
@@ -110,7 +121,8 @@ then_at join p q left = p left >>= λ x. (q x.1 >>= λ y. Ok (join x.0 y.0, y.1)
 
 -- a number behind a minus that stands at the place
 abbrev pub negative_of : ℕ → Left → Option Lexeme → Read Value
-negative_of place left (Some (Number n)) = if nat_le n (2 ^ 63) then Ok (values.Int (neg_ℤ (pos n)), rest_of left) else Err place
+negative_of place left (Some (Number n)) =
+    if nat_le n (2 ^ 63) then Ok (values.Int (neg_ℤ (pos n)), rest_of left) else Err place
 negative_of place left _ = Err (place_of left)
 
 -- the number behind a minus that stands at the place
@@ -168,7 +180,9 @@ row_at left = enclosed_at (listed_at value_at) left
 
 -- an INSERT
 unfoldable pub insert_at : Left → Read Statement
-insert_at left = behind_at words.Insert (behind_at words.Into (then_at insert_of name_at (behind_at words.Values (listed_at row_at)))) left
+insert_at left =
+    behind_at words.Insert
+    (behind_at words.Into (then_at insert_of name_at (behind_at words.Values (listed_at row_at)))) left
 
 -- a column, a comparison and a value
 unfoldable pub condition_at : Left → Read Condition
@@ -176,7 +190,9 @@ condition_at left = then_at condition_of name_at (then_at paired (one_at compari
 
 -- the conditions behind WHERE, where it stands
 unfoldable pub where_at : Left → Read (List Condition)
-where_at left = either_at (word words.Where) (behind_at words.Where (separated_at (word words.And) condition_at)) (nothing_at []) left
+where_at left =
+    either_at (word words.Where) (behind_at words.Where (separated_at (word words.And) condition_at))
+    (nothing_at []) left
 
 -- a column or a value
 unfoldable pub term_at : Left → Read Term
@@ -188,11 +204,14 @@ steps_at left = repeated_at step_sign step_of term_at left
 
 -- a column and what it is set to
 unfoldable pub change_at : Left → Read Change
-change_at left = then_at change_of name_at (then_at second (sign_at signs.Equal) (then_at paired term_at steps_at)) left
+change_at left =
+    then_at change_of name_at (then_at second (sign_at signs.Equal) (then_at paired term_at steps_at)) left
 
 -- an UPDATE
 unfoldable pub update_at : Left → Read Statement
-update_at left = behind_at words.Update (then_at update_of name_at (behind_at words.Set (then_at paired (listed_at change_at) where_at))) left
+update_at left =
+    behind_at words.Update
+    (then_at update_of name_at (behind_at words.Set (then_at paired (listed_at change_at) where_at))) left
 
 -- a DELETE
 unfoldable pub delete_at : Left → Read Statement
@@ -200,15 +219,22 @@ delete_at left = behind_at words.Delete (behind_at words.From (then_at delete_of
 
 -- all columns, or those that are named
 unfoldable pub shown_at : Left → Read Shown
-shown_at left = either_at (sign signs.Star) (then_at all_columns (sign_at signs.Star) (nothing_at tt)) (made_at shown_columns (listed_at name_at)) left
+shown_at left =
+    either_at (sign signs.Star) (then_at all_columns (sign_at signs.Star) (nothing_at tt))
+    (made_at shown_columns (listed_at name_at)) left
 
 -- whether the order falls: DESC, or ASC, or no word
 unfoldable pub direction_at : Left → Read Bool
-direction_at left = either_at (word words.Asc) (behind_at words.Asc (nothing_at false)) (either_at (word words.Desc) (behind_at words.Desc (nothing_at true)) (nothing_at false)) left
+direction_at left =
+    either_at (word words.Asc) (behind_at words.Asc (nothing_at false))
+    (either_at (word words.Desc) (behind_at words.Desc (nothing_at true)) (nothing_at false)) left
 
 -- the order behind ORDER BY, where it stands
 unfoldable pub order_at : Left → Read (Option Order)
-order_at left = either_at (word words.Order) (behind_at words.Order (behind_at words.By (then_at order_of name_at direction_at))) (nothing_at None) left
+order_at left =
+    either_at (word words.Order)
+    (behind_at words.Order (behind_at words.By (then_at order_of name_at direction_at)))
+    (nothing_at None) left
 
 -- the number behind LIMIT, where it stands
 unfoldable pub limit_at : Left → Read (Option ℕ)
@@ -216,15 +242,22 @@ limit_at left = either_at (word words.Limit) (behind_at words.Limit (one_at limi
 
 -- what stands behind the SELECT of columns
 unfoldable pub plain_at : Left → Read Statement
-plain_at left = then_at select_of shown_at (behind_at words.From (then_at paired name_at (then_at paired where_at (then_at paired order_at limit_at)))) left
+plain_at left =
+    then_at select_of shown_at
+    (behind_at words.From
+    (then_at paired name_at (then_at paired where_at (then_at paired order_at limit_at)))) left
 
 -- a COUNT or a SUM
 unfoldable pub total_at : Left → Read Total
-total_at left = either_at (word words.Count) (behind_at words.Count (enclosed_at (then_at count_all (sign_at signs.Star) (nothing_at tt)))) (behind_at words.Sum (enclosed_at (made_at sum_of name_at))) left
+total_at left =
+    either_at (word words.Count)
+    (behind_at words.Count (enclosed_at (then_at count_all (sign_at signs.Star) (nothing_at tt))))
+    (behind_at words.Sum (enclosed_at (made_at sum_of name_at))) left
 
 -- what stands behind the SELECT of totals
 unfoldable pub totals_at : Left → Read Statement
-totals_at left = then_at totals_of (listed_at total_at) (behind_at words.From (then_at paired name_at where_at)) left
+totals_at left =
+    then_at totals_of (listed_at total_at) (behind_at words.From (then_at paired name_at where_at)) left
 
 -- a SELECT
 unfoldable pub select_at : Left → Read Statement
@@ -232,11 +265,15 @@ select_at left = behind_at words.Select (either_at total_word totals_at plain_at
 
 -- the type of a column
 unfoldable pub type_at : Left → Read Kind
-type_at left = either_at int_word (then_at second (one_at int_word) (nothing_at kinds.Int)) (then_at second (one_at text_word) (enclosed_at (one_at text_kind))) left
+type_at left =
+    either_at int_word (then_at second (one_at int_word) (nothing_at kinds.Int))
+    (then_at second (one_at text_word) (enclosed_at (one_at text_kind))) left
 
 -- whether PRIMARY KEY stands there
 unfoldable pub marked_at : Left → Read Bool
-marked_at left = either_at (word words.Primary) (behind_at words.Primary (behind_at words.Key (nothing_at true))) (nothing_at false) left
+marked_at left =
+    either_at (word words.Primary) (behind_at words.Primary (behind_at words.Key (nothing_at true)))
+    (nothing_at false) left
 
 -- a column of a definition, and whether it is marked as the key
 unfoldable pub column_at : Left → Read (Column × Bool)
@@ -244,11 +281,18 @@ column_at left = then_at column_of name_at (then_at paired type_at marked_at) le
 
 -- a CREATE TABLE
 unfoldable pub create_at : Left → Read Statement
-create_at left = behind_at words.Create (behind_at words.Table (then_at create_of name_at (enclosed_at (listed_at column_at)))) left
+create_at left =
+    behind_at words.Create
+    (behind_at words.Table (then_at create_of name_at (enclosed_at (listed_at column_at)))) left
 
 -- a statement, as its first word tells
 unfoldable pub statement_at : Left → Read Statement
-statement_at left = either_at (word words.Create) create_at (either_at (word words.Insert) insert_at (either_at (word words.Select) select_at (either_at (word words.Update) update_at (either_at (word words.Delete) delete_at (one_at block_of))))) left
+statement_at left =
+    either_at (word words.Create) create_at
+    (either_at (word words.Insert) insert_at
+    (either_at (word words.Select) select_at
+    (either_at (word words.Update) update_at
+    (either_at (word words.Delete) delete_at (one_at block_of))))) left
 
 -- no token is left
 abbrev pub ended : {X : Type 0} → Left → List Item → X → Read X

@@ -2,7 +2,8 @@
 ghost use Rattle.std.specs.Prelude.{◌≡◌, option_and_then, is_some, if◌then◌else◌};
 ghost use Rattle.sql_parse.specs.Parsed.{ParsesAs};
 ghost use Rattle.sql_parse.specs.Grammar.{step_sign};
-ghost use Rattle.sql_parse.specs.Reading.{next_of, rest_of, insert_at, term_at, steps_at, change_at, listed_at, update_at, delete_at};
+ghost use Rattle.sql_parse.specs.Reading.{next_of, rest_of, insert_at, term_at, steps_at, change_at};
+ghost use Rattle.sql_parse.specs.Reading.{listed_at, update_at, delete_at};
 
 use crate::fault::ParseFault;
 use crate::parser::Parser;

@@ -46,7 +46,8 @@ impl<'a> Parser<'a> {
 
     // cond { AND cond }
     fn all_conditions(&mut self, alloc: Global) -> Result<Items<Condition>, ParseFault>
-        ensures { ParsesAs (λ conditions. (conditions, self.new)) result (separated_at (word And) condition_at self.old) }
+        ensures { ParsesAs (λ conditions. (conditions, self.new)) result
+            (separated_at (word And) condition_at self.old) }
     {
         let mut conditions = Items::new(alloc);
         conditions.push(self.condition(alloc)?)?;

@@ -13,13 +13,18 @@ pub fn one_statement()
     ensures { (tokens : List Lexeme) (a b : Statement) → IsStatement tokens a → IsStatement tokens b → a ≡ b }
 {}
 
-/// Each text is a statement or has a first fault, and exactly one of them: it is at most one statement, one that is a
-/// statement has no fault, and any other has one first fault.
+/// Each text is a statement or has a first fault, and exactly one of them: it is at most one statement, one
+/// that is a statement has no fault, and any other has one first fault.
 pub fn one_answer()
-    ensures some_answer { (base : ℕ) (text : List ℕ) → ((statement : Statement) × IsText IsStatement base text statement) ⊎ ((at : ℕ) × IsFault IsStatement base text at) }
-    ensures one_statement { (base : ℕ) (text : List ℕ) (a b : Statement) → IsText IsStatement base text a → IsText IsStatement base text b → a ≡ b }
-    ensures not_both { (base at : ℕ) (text : List ℕ) (statement : Statement) → IsText IsStatement base text statement → IsFault IsStatement base text at → ⊥ }
-    ensures one_place { (base at place : ℕ) (text : List ℕ) → IsFault IsStatement base text at → IsFault IsStatement base text place → at ≡ place }
+    ensures some_answer { (base : ℕ) (text : List ℕ)
+        → ((statement : Statement) × IsText IsStatement base text statement)
+        ⊎ ((at : ℕ) × IsFault IsStatement base text at) }
+    ensures one_statement { (base : ℕ) (text : List ℕ) (a b : Statement) → IsText IsStatement base text a
+        → IsText IsStatement base text b → a ≡ b }
+    ensures not_both { (base at : ℕ) (text : List ℕ) (statement : Statement)
+        → IsText IsStatement base text statement → IsFault IsStatement base text at → ⊥ }
+    ensures one_place { (base at place : ℕ) (text : List ℕ) → IsFault IsStatement base text at
+        → IsFault IsStatement base text place → at ≡ place }
 {
     each_text_has_tokens();
     one_token_list();

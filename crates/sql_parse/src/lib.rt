@@ -1,4 +1,5 @@
-//! The statements of SQL: every text is read as its one statement, or refused at the first place at which none goes on so.
+//! The statements of SQL: every text is read as its one statement,
+//! or refused at the first place at which none goes on so.
 #![tactic(auto)]
 
 mod changes;

@@ -2,7 +2,8 @@
 ghost use Rattle.std.specs.Prelude.{◌≡◌};
 ghost use Rattle.sql_parse.specs.Parsed.{ParsesAs};
 ghost use Rattle.sql_parse.specs.Grammar.{limit_of, total_word};
-ghost use Rattle.sql_parse.specs.Reading.{one_at, name_at, listed_at, shown_at, direction_at, order_at, limit_at, plain_at, total_at, totals_at, select_at};
+ghost use Rattle.sql_parse.specs.Reading.{one_at, name_at, listed_at, shown_at, direction_at, order_at};
+ghost use Rattle.sql_parse.specs.Reading.{limit_at, plain_at, total_at, totals_at, select_at};
 
 use crate::fault::ParseFault;
 use crate::parser::Parser;

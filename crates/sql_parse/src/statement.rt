@@ -4,8 +4,8 @@ use row_types::{Items, Name, Row, TableDef, Value};
 /// A statement.
 #[derive(Debug, Drop)]
 pub enum Statement {
-    /// `CREATE TABLE`. The numbers of the columns that are marked PRIMARY KEY count from 0; from the 256th column on each is
-    /// told as 255.
+    /// `CREATE TABLE`. The numbers of the columns that are marked PRIMARY KEY count from 0; from the 256th
+    /// column on each is reported as 255.
     Create(TableDef),
     Insert(Insert),
     Select(Select),

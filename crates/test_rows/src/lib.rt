@@ -1,4 +1,5 @@
-//! Tables of rows for values, slots, schemas, keys and locks: an input of a public call, and what has to come of it.
+//! Tables of rows for values, slots, schemas, keys and locks:
+//! an input of a public call, and what has to come of it.
 #![tactic(auto)]
 
 #[cfg(test)]

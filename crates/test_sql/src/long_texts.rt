@@ -1,4 +1,5 @@
-// With ample memory each list is read whole, however long it is, and so are long literals and texts of several MB.
+// With ample memory each list is read whole, however long it
+// is, and so are long literals and texts of several MB.
 use crate::statements::shown;
 use sql_lex::lex;
 use std::alloc::Global;

@@ -1,5 +1,5 @@
-//! Tables of rows for what keeps and carries bytes: an input of a public call, and what has to come of it. They show what
-//! no clause says, above all that a call succeeds with ample memory.
+//! Tables of rows for what keeps and carries bytes: an input of a public call, and what has to come of it.
+//! They show what no clause says, above all that a call succeeds with ample memory.
 #![tactic(auto)]
 
 #[cfg(test)]

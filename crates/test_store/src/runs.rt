@@ -1,4 +1,5 @@
-// What no clause says: that a call with ample memory doesn't return out of memory. The rows go through the public call.
+// What no clause says: that a call with ample memory doesn't
+// return out of memory. The rows go through the public call.
 ghost use Rattle.std.specs.Prelude.{◌≡◌, length, IfOk};
 
 use disk_core::{LaneDisks, MemDisk, OutOfMemory, Store};

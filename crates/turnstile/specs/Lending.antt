@@ -15,6 +15,8 @@ abbrev pub LendsSlot : (R S : RattleType) → MutBor (PassWith R.Denot S.Denot) 
 LendsSlot R S s r = Lends (pass_row R S) R s r (λ w. record s.now { seat = seat_with s.now.seat 0 (Some w) })
 
 -- the turn ends with the value that was left behind r
-abbrev pub LendsValue : (R S : RattleType) → Ghosts R.Denot S.Denot → MutBor (Turn R.Denot S.Denot) → MutBor R.Denot → Fml
-LendsValue R S t s r = Lends (the_row (record { mir = named 1; lft = [] }) (record { mir = named 2; lft = [] }) R S t) R s r
+abbrev pub LendsValue : (R S : RattleType) → Ghosts R.Denot S.Denot → MutBor (Turn R.Denot S.Denot)
+    → MutBor R.Denot → Fml
+LendsValue R S t s r =
+    Lends (the_row (record { mir = named 1; lft = [] }) (record { mir = named 2; lft = [] }) R S t) R s r
     (λ w. record s.now { pass = record s.now.pass { now = record s.now.pass.now { seat = seat_with s.now.pass.now.seat 0 (Some w) } } })

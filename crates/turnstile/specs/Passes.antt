@@ -1,5 +1,6 @@
 -- What a clause says of a pass.
-use Rattle.std.specs.Prelude.{◌≡◌, ◌==◌, ℕ, ◌+◌, ◌^◌, ◌<◌, ◌≤◌, length, List, [], ◌∷◌, Option, Some, None, cond}
+use Rattle.std.specs.Prelude.{◌≡◌, ◌==◌, ℕ, ◌+◌, ◌^◌, ◌<◌, ◌≤◌, length, List, [], ◌∷◌, Option, Some, None}
+use Rattle.std.specs.Prelude.{cond}
 use Rattle.atomic_table.specs.Seated.{TableId}
 use Rattle.atomic_table.specs.Table.{rest}
 use Rattle.turnstile.specs.declared.view.View.{View}
@@ -51,8 +52,10 @@ module _ {M E : Type 0} where
   abbrev pub value_in : PassWith M E → Option M
   value_in p = value_of p.seat.me.1
 
-  -- a seat with this view, this table and these slots is that of a pass of the turnstile which tells these numbers. What it has seen has its entries
-  pub record IsAt (t : Name M) (stage : Stage) (v : View M E) (table : TableId) (slots : List (ℕ × Option M)) (number left made : ℕ) : Type 0 where
+  -- a seat with this view, this table and these slots is that of a pass of
+  -- the turnstile which tells these numbers. What it has seen has its entries
+  pub record IsAt (t : Name M) (stage : Stage) (v : View M E) (table : TableId) (slots : List (ℕ × Option M))
+      (number left made : ℕ) : Type 0 where
     pub table_is : table ≡ t.table
     pub started : v.start ≡ Some t.first
     pub stage_is : v.stage ≡ stage
@@ -89,7 +92,9 @@ module _ {M E : Type 0} where
 
   -- the first pass has made one pass more, and all else stays
   abbrev pub OnePassMore : PassWith M E → PassWith M E → Type 0
-  OnePassMore p q = (number q ≡ number p) × (mine q ≡ mine p) × (left q ≡ left p) × (made q ≡ made p + 1) × (seen q ≡ seen p)
+  OnePassMore p q =
+      (number q ≡ number p) × (mine q ≡ mine p) × (left q ≡ left p) × (made q ≡ made p + 1)
+      × (seen q ≡ seen p)
 
   -- a pass with this number that has all turns, has made no entry, and counts so many passes
   abbrev pub IsNew : PassWith M E → ℕ → ℕ → Type 0
@@ -104,7 +109,8 @@ module _ {M E : Type 0} where
   parts_of [] = []
   parts_of (p ∷ ps) = (number p, mine p) ∷ parts_of ps
 
-  -- how many passes these have made, themselves among them: the first pass counts them, and another counts none
+  -- how many passes these have made, themselves among them:
+  -- the first pass counts them, and another counts none
   abbrev pub made_by : List (PassWith M E) → ℕ
   made_by [] = 0
   made_by (p ∷ ps) = made p + made_by ps
@@ -113,10 +119,13 @@ module _ {M E : Type 0} where
   abbrev pub AllTold : List (PassWith M E) → View M E → Type 0
   AllTold ps v = (k : ℕ) (p : PassWith M E) → get_elem? ps k ≡ some p → Hears v (seen p)
 
-  -- The value stands for the whole history h. The passes are numbered from 0 on, each number once; h has of each just its own entries, begins with what each has seen, and has no others
-  pub record IsWhole (leads : M → List E → M → Type 0) (owner : E → Option ℕ) (start : M) (ps : List (PassWith M E)) (h : List (ℕ × E)) (m : M) : Type 0 where
+  -- The value stands for the whole history h. The passes are numbered from 0 on, each number
+  -- once; h has of each just its own entries, begins with what each has seen, and has no others
+  pub record IsWhole (leads : M → List E → M → Type 0) (owner : E → Option ℕ) (start : M)
+      (ps : List (PassWith M E)) (h : List (ℕ × E)) (m : M) : Type 0 where
     pub stands : leads start (entries h) m
     pub owned : Owned owner h
     pub each_once : (n : ℕ) → n < length ps → times n (parts_of ps) ≡ 1
-    pub of_each : (k : ℕ) (p : PassWith M E) → get_elem? ps k ≡ some p → (number p < length ps) × (of_pass (number p) h ≡ mine p) × Begins h (seen p)
+    pub of_each : (k : ℕ) (p : PassWith M E) → get_elem? ps k ≡ some p → (number p < length ps)
+        × (of_pass (number p) h ≡ mine p) × Begins h (seen p)
     pub of_others : (n : ℕ) → length ps ≤ n → of_pass n h ≡ []

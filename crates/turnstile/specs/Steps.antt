@@ -26,26 +26,83 @@ module _ {E : Type 0} where
 module _ {M E : Type 0} where
   -- The seat of `new`, with the ticket 0. The first pass has 2^56 turns, and may make 63 others
   abbrev pub first_view : M → View M E
-  first_view m = record { start = Some m; made = 1; left = 72057594037927936; spare = 63; stage = Filling; ticket = 0; seen = []; heard = []; parts = (0, []) ∷ [] }
+  first_view m =
+      record {
+        start = Some m;
+        made = 1;
+        left = 72057594037927936;
+        spare = 63;
+        stage = Filling;
+        ticket = 0;
+        seen = [];
+        heard = [];
+        parts = (0, []) ∷ [];
+      }
 
   -- what is left of a seat that was joined to another
   abbrev pub spent_view : View M E
-  spent_view = record { start = None; made = 0; left = 0; spare = 0; stage = Idle; ticket = 0; seen = []; heard = []; parts = [] }
+  spent_view =
+      record {
+        start = None;
+        made = 0;
+        left = 0;
+        spare = 0;
+        stage = Idle;
+        ticket = 0;
+        seen = [];
+        heard = [];
+        parts = [];
+      }
 
   -- the first pass after it made another
   abbrev pub after_pass : View M E → View M E
   after_pass v = record v { made = v.made + 1; spare = v.spare - 1 }
 
   abbrev pub new_pass : View M E → View M E
-  new_pass v = record { start = v.start; made = 0; left = 72057594037927936; spare = 0; stage = Idle; ticket = 0; seen = v.seen; heard = []; parts = (v.made, []) ∷ [] }
+  new_pass v =
+      record {
+        start = v.start;
+        made = 0;
+        left = 72057594037927936;
+        spare = 0;
+        stage = Idle;
+        ticket = 0;
+        seen = v.seen;
+        heard = [];
+        parts = (v.made, []) ∷ [];
+      }
 
   -- a note has no pass, and says what a seat has seen
   abbrev pub note : View M E → View M E
-  note v = record { start = v.start; made = 0; left = 0; spare = 0; stage = Idle; ticket = 0; seen = v.seen; heard = []; parts = [] }
+  note v =
+      record {
+        start = v.start;
+        made = 0;
+        left = 0;
+        spare = 0;
+        stage = Idle;
+        ticket = 0;
+        seen = v.seen;
+        heard = [];
+        parts = [];
+      }
 
   -- the first seat, with what the second had
   abbrev pub joined : View M E → View M E → View M E
-  joined v w = record { start = v.start; made = v.made + w.made; left = v.left + w.left; spare = v.spare + w.spare; stage = v.stage; ticket = v.ticket; seen = v.seen; heard = v.heard ++ w.seen ∷ w.heard; parts = w.parts ++ v.parts }
+  joined v w =
+      record {
+        start = v.start;
+        made = v.made + w.made;
+        left = v.left + w.left;
+        spare = v.spare + w.spare;
+        stage =
+            v.stage;
+        ticket =
+            v.ticket;
+        seen = v.seen;
+        heard = v.heard ++ w.seen ∷ w.heard;
+        parts = w.parts ++ v.parts;
+      }
 
   abbrev pub with_ticket : View M E → ℕ → View M E
   with_ticket v n = record v { stage = Waiting; ticket = n; left = v.left - 1 }
@@ -63,7 +120,12 @@ module _ {M E : Type 0} where
 
   -- the turn has ended, and its one pass has made these entries
   abbrev pub with_entries : View M E → List E → View M E
-  with_entries v es = record v { stage = Idle; seen = v.seen ++ tagged (number_of v.parts) es; parts = (number_of v.parts, first_mine v.parts ++ es) ∷ [] }
+  with_entries v es =
+      record v {
+        stage = Idle;
+        seen = v.seen ++ tagged (number_of v.parts) es;
+        parts = (number_of v.parts, first_mine v.parts ++ es) ∷ [];
+      }
 
   -- the history has of each of the seat's passes what the seat knows of it
   abbrev pub Knows : View M E → List (ℕ × E) → Type 0
@@ -88,7 +150,9 @@ module _ {M E : Type 0} where
   module _ (leads : M → List E → M → Type 0) (owner : E → Option ℕ) where
     -- the seat is inside: it has the value, and sees the history that leads to it
     abbrev pub IsCalled : Me (Option M) (View M E) → Me (Option M) (View M E) → Type 0
-    IsCalled m w = (h : List (ℕ × E)) × (x : M) × (w ≡ (entered m.0 h, (0, Some x) ∷ [])) × AllHeard m.0 h × Knows m.0 h × Owned owner h
+    IsCalled m w =
+        (h : List (ℕ × E)) × (x : M) × (w ≡ (entered m.0 h, (0, Some x) ∷ [])) × AllHeard m.0 h × Knows m.0 h
+        × Owned owner h
         × ((start : M) → m.0.start ≡ Some start → leads start (entries h) x)
 
     -- the seat is called exactly where the number found is its ticket
@@ -101,8 +165,11 @@ module _ {M E : Type 0} where
 
   -- the seat waits with this ticket at the table that was made with this value, and has no slot
   abbrev pub WaitsWith : TableId → M → Seat (Option M) (View M E) → ℕ → Type 0
-  WaitsWith table first seat ticket = IsOf table seat Waiting × (seat.me.0.ticket ≡ ticket) × (seat.me.0.start ≡ Some first) × (seat.me.1 ≡ [])
+  WaitsWith table first seat ticket =
+      IsOf table seat Waiting × (seat.me.0.ticket ≡ ticket) × (seat.me.0.start ≡ Some first)
+      × (seat.me.1 ≡ [])
 
   -- the seat is still one of its table, and knows and has this
-  abbrev pub Becomes : Seat (Option M) (View M E) → Seat (Option M) (View M E) → Me (Option M) (View M E) → Type 0
+  abbrev pub Becomes : Seat (Option M) (View M E) → Seat (Option M) (View M E) → Me (Option M) (View M E)
+      → Type 0
   Becomes old new me = (new.table_id ≡ old.table_id) × (new.me ≡ me)

@@ -1,5 +1,6 @@
 -- The rule of the turnstile: what holds of its table between any two steps.
--- Word 0 is how many tickets were drawn, word 1 how many turns have ended, and word 2 how many threads sleep. The one slot has the value.
+-- Word 0 is how many tickets were drawn, word 1 how many turns have
+-- ended, and word 2 how many threads sleep. The one slot has the value.
 use Rattle.std.specs.Prelude.{◌≡◌, ℕ, ◌+◌, ◌*◌, ◌<◌, ◌≤◌, List, [], ◌∷◌, Option, Some, None}
 use mathlib.Core.Option.{some}
 use mathlib.Core.Option as maybe
@@ -10,8 +11,9 @@ use Rattle.turnstile.specs.declared.view.Stage.{Stage}
 use Rattle.turnstile.specs.declared.view.Stage.TheVariants.{Idle, Waiting, Inside, Filling}
 use Rattle.turnstile.specs.History.{Begins, of_pass, entries, Owned, times, mine_of}
 
--- What the rule knows beside what the seats know: the history; the seat that drew each ticket; the seat of each pass, and that of the
--- first; how many passes were made; the words; the stage of the turn that was called; and what the slot has while no seat has it
+-- What the rule knows beside what the seats know: the history; the seat that drew each ticket; the seat of
+-- each pass, and that of the first; how many passes were made; the words; the
+-- stage of the turn that was called; and what the slot has while no seat has it
 pub record Room (M E : Type 0) : Type 0 where
   pub hist : List (ℕ × E)
   pub holder : ℕ → ℕ
@@ -35,7 +37,9 @@ module _ {M E : Type 0} where
 
   -- the seat i has drawn a ticket that isn't served yet, for a pass
   abbrev pub Queued : Room M E → ℕ → View M E → Type 0
-  Queued r i v = (r.holder v.ticket ≡ i) × (r.served ≤ v.ticket) × (v.ticket < r.drawn) × ((n : ℕ) × (0 < times n v.parts))
+  Queued r i v =
+      (r.holder v.ticket ≡ i) × (r.served ≤ v.ticket) × (v.ticket < r.drawn)
+      × ((n : ℕ) × (0 < times n v.parts))
 
   -- the seat's ticket is the one that was called, and the seat has seen the whole history
   abbrev pub Called : Room M E → View M E → Stage → Type 0
@@ -56,14 +60,20 @@ module _ {M E : Type 0} where
     pub heard : (k : ℕ) (h : List (ℕ × E)) → get_elem? v.heard k ≡ some h → Begins r.hist h
     pub stands : Stands r i v v.stage
     pub once : (n : ℕ) → times n v.parts ≤ 1
-    pub parts : (n : ℕ) → 0 < times n v.parts → (r.seat_of n ≡ i) × (n < r.made) × (of_pass n r.hist ≡ mine_of n v.parts)
+    pub parts : (n : ℕ) → 0 < times n v.parts → (r.seat_of n ≡ i) × (n < r.made)
+        × (of_pass n r.hist ≡ mine_of n v.parts)
 
-  -- the turn that was called is that of a seat at this stage; with Idle nobody has looked yet, or the ticket isn't drawn
+  -- the turn that was called is that of a seat at this stage;
+  -- with Idle nobody has looked yet, or the ticket isn't drawn
   abbrev pub Busy : List (View M E) → Room M E → Stage → Type 0
   Busy views r Idle = Unit {0}
   Busy views r Waiting = ⊥
-  Busy views r Inside = (r.served < r.drawn) × ((v : View M E) × (get_elem? views (r.holder r.served) ≡ some v) × (v.stage ≡ Inside))
-  Busy views r Filling = (r.served < r.drawn) × ((v : View M E) × (get_elem? views (r.holder r.served) ≡ some v) × (v.stage ≡ Filling))
+  Busy views r Inside =
+      (r.served < r.drawn)
+      × ((v : View M E) × (get_elem? views (r.holder r.served) ≡ some v) × (v.stage ≡ Inside))
+  Busy views r Filling =
+      (r.served < r.drawn)
+      × ((v : View M E) × (get_elem? views (r.holder r.served) ≡ some v) × (v.stage ≡ Filling))
 
   module _ (leads : M → List E → M → Type 0) (owner : E → Option ℕ) where
     -- the slot has the value that the history leads to, unless the seat whose turn it is has it

@@ -10,8 +10,10 @@ module _ {M E : Type 0} where
   abbrev pub Hears : View M E → List (ℕ × E) → Type 0
   Hears v h = (j : ℕ) × (get_elem? (v.seen ∷ v.heard) j ≡ some h)
 
-  -- the value stands for the whole history, in which the seat's passes have their entries, and nobody else has any
-  pub record Whole (leads : M → List E → M → Type 0) (owner : E → Option ℕ) (start : M) (v : View M E) (h : List (ℕ × E)) (m : M) : Type 0 where
+  -- the value stands for the whole history, in which the
+  -- seat's passes have their entries, and nobody else has any
+  pub record Whole (leads : M → List E → M → Type 0) (owner : E → Option ℕ) (start : M) (v : View M E)
+      (h : List (ℕ × E)) (m : M) : Type 0 where
     pub stands : leads start (entries h) m
     pub owned : Owned owner h
     pub each_once : (n : ℕ) → n < v.made → times n v.parts ≡ 1

@@ -63,8 +63,8 @@ fn give_way(tries: u32) {
     }
 }
 
-/// Waits a while for a moment at which nobody has a ticket. Tickets are served in order, so a thread that drew one and
-/// was then put off by the system would hold up all others; so few have one at a time.
+/// Waits a while for a moment at which nobody has a ticket. Tickets are served in order, so a thread that
+/// drew one and was then put off by the system would hold up all others; so few have one at a time.
 #[inline]
 pub fn approach<M: Told>(door: &Door<M>)
     requires { door.now.table_id.words ≡ 3 }
@@ -133,8 +133,8 @@ pub fn wait<M: Told, R: Wait>(rt: &R, door: &Door<M>, seat: &mut Place<M>, ticke
     unreachable!()
 }
 
-/// Ends the turn in one step: the value is back in the slot, the history has the entries, and the next ticket is
-/// called.
+/// Ends the turn in one step: the value is back in the slot, the history has the entries, and the next ticket
+/// is called.
 #[inline]
 pub fn serve<M: Told, W: Adds<M::Entry>>(door: &Door<M>, seat: &mut Place<M>)
     requires seat { IsOf door.now.table_id seat.old Inside }

@@ -51,7 +51,8 @@ impl<M: Told> Turnstile<M> {
         Ok((Turnstile { table }, pass))
     }
 
-    /// A new pass with the next number and 2^56 turns, which has seen all that the first pass, `from`, has seen.
+    /// A new pass with the next number and 2^56 turns, which
+    /// has seen all that the first pass, `from`, has seen.
     ///
     /// A turnstile has at most 64 passes. A new one takes no memory.
     pub fn pass(&self, from: &mut Pass<M>) -> Pass<M>
@@ -127,7 +128,8 @@ impl<M: Told> Turnstile<M> {
         serve::<M, W>(&self.table.shared, &mut pass.seat);
     }
 
-    /// A turn of the pass, which uses up one of those that it has left. It waits until all that came before have left.
+    /// A turn of the pass, which uses up one of those that it
+    /// has left. It waits until all that came before have left.
     ///
     /// The history that the value stands for begins with what the pass has seen.
     #[inline]
@@ -182,7 +184,8 @@ impl<M: Told> Turnstile<M> {
 
     /// The value at the end, which stands for the whole history.
     ///
-    /// All passes that were made have to be given back, in any order. It takes no memory, so it is never refused.
+    /// All passes that were made have to be given back, in
+    /// any order. It takes no memory, so it is never refused.
     pub fn finish(self, mut passes: Vec<Pass<M>>) -> M
         requires passes { ArePasses (name_of self) passes.items }
         requires all { (0 < length passes.items) × (made_by passes.items ≡ length passes.items) }
@@ -216,7 +219,8 @@ impl<'p, 't, M: Told> Turn<'p, 't, M> {
 
     /// Ends the turn: the value goes back, and the history has the entries W, as this pass's own.
     ///
-    /// The value has to stand for the history with them, and each of them that has an owner has to be this pass's.
+    /// The value has to stand for the history with them, and
+    /// each of them that has an owner has to be this pass's.
     #[inline]
     pub fn leave<W: Adds<M::Entry>>(self)
         requires turn { IsInside (at self) (pass_of self) }

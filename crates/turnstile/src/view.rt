@@ -92,8 +92,8 @@ impl<M, E> Play<Option<M>, View<M, E>> for Rests {
 
 /// The entries that a turn adds to the history.
 ///
-/// The program passes `Brand` for it at `Turn::leave`, and the caller's proof names the entries there. Where it
-/// names none, there are none.
+/// The program passes `Brand` for it at `Turn::leave`, and the caller's proof names the entries there. Where
+/// it names none, there are none.
 pub trait Adds<E> {
     ghost use Rattle.std.specs.Prelude.{List};
 

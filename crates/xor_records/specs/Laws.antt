@@ -1,5 +1,6 @@
 -- What holds of the pages that images and records stand for.
-use Rattle.std.specs.Prelude.{ℕ, Bool, true, false, List, ◌∷◌, ◌≡◌, ◌<◌, ◌≤◌, ◌+◌, ◌%◌, ◌^◌, map, length, get_or, count_by, replicate, All, IsPermutation}
+use Rattle.std.specs.Prelude.{ℕ, Bool, true, false, List, ◌∷◌, ◌≡◌, ◌<◌, ◌≤◌, ◌+◌, ◌%◌, ◌^◌, map, length}
+use Rattle.std.specs.Prelude.{get_or, count_by, replicate, All, IsPermutation}
 use Rattle.std.specs.Int.{bit_at}
 use Rattle.fields.specs.Toggle.{byte_at, byte_from, toggled}
 use Rattle.xor_records.specs.declared.record.Head.{Head}
@@ -21,40 +22,56 @@ IsAtMost images head = head.stamp ≤ stamp_of images (page_of head)
 
 -- one record more leaves all pages
 abbrev pub Leaves : List PageImage → List Record → Record → Type 0
-Leaves images records more = (name : PageName) → restarted images (more ∷ records) name ≡ restarted images records name
+Leaves images records more =
+    (name : PageName) → restarted images (more ∷ records) name ≡ restarted images records name
 
 -- one change more toggles its bits on its page
 abbrev pub Toggles : List PageImage → List Record → Head → List ℕ → Type 0
 Toggles images records head xor =
-    restarted images (Diff head xor ∷ records) (page_of head) ≡ toggled (byte_from head.offset) (restarted images records (page_of head)) xor
+    restarted images (Diff head xor ∷ records) (page_of head) ≡ toggled (byte_from head.offset)
+    (restarted images records (page_of head)) xor
 
--- bit b of the byte at place i: the image's, where an even number of the records owed to the page has it set, else the opposite
+-- bit b of the byte at place i: the image's, where an even number
+-- of the records owed to the page has it set, else the opposite
 abbrev pub EachBitHasItsParity : Type 0
-EachBitHasItsParity = (images : List PageImage) (records : List Record) (name : PageName) (i b : ℕ) → i < length (bytes_of images name) → b < 8
+EachBitHasItsParity =
+    (images : List PageImage) (records : List Record) (name : PageName) (i b : ℕ)
+    → i < length (bytes_of images name) → b < 8
     → bit_at (get_or (restarted images records name) i 0) b
-    ≡ (bit_at (get_or (bytes_of images name) i 0) b + count_by (λ r. is_set (owed_byte (ended records) name (stamp_of images name) r i) b) records) % 2
+    ≡ (bit_at (get_or (bytes_of images name) i 0) b + count_by
+    (λ r. is_set (owed_byte (ended records) name (stamp_of images name) r i) b) records) % 2
 
 abbrev pub NoOrder : Type 0
-NoOrder = (images : List PageImage) (records others : List Record) (name : PageName) → IsPermutation records others
+NoOrder =
+    (images : List PageImage) (records others : List Record) (name : PageName) → IsPermutation records others
     → restarted images others name ≡ restarted images records name
 
 -- what a part of the records toggles on a page, over zeros
 abbrev pub part_of : List PageImage → (ℕ → Bool) → PageName → List Record → List ℕ
-part_of images has_ended name part = flipped (owed_byte has_ended name (stamp_of images name)) (replicate (length (bytes_of images name)) 0) part
+part_of images has_ended name part =
+    flipped (owed_byte has_ended name (stamp_of images name))
+    (replicate (length (bytes_of images name)) 0) part
 
 abbrev pub AnyParts : Type 0
-AnyParts = (images : List PageImage) (records : List Record) (parts : List (List Record)) (name : PageName) → IsPermutation records (joined parts)
-    → flipped byte_at (bytes_of images name) (map (part_of images (ended records) name) parts) ≡ restarted images records name
+AnyParts =
+    (images : List PageImage) (records : List Record) (parts : List (List Record)) (name : PageName)
+    → IsPermutation records (joined parts)
+    → flipped byte_at (bytes_of images name) (map (part_of images (ended records) name) parts)
+    ≡ restarted images records name
 
 abbrev pub EndedToggles : Type 0
-EndedToggles = (images : List PageImage) (records : List Record) (head : Head) (xor : List ℕ) → All (λ x. x < 2 ^ 8) xor
+EndedToggles =
+    (images : List PageImage) (records : List Record) (head : Head) (xor : List ℕ) → All (λ x. x < 2 ^ 8) xor
     → IsAbove images head → ended records head.txn ≡ true → Toggles images records head xor
 
 -- the compensation is of the same transaction, page and place with the same bytes, and has a stamp of its own
 abbrev pub Compensated : Type 0
-Compensated = (images : List PageImage) (records : List Record) (head : Head) (stamp : ℕ) (xor : List ℕ) (name : PageName)
+Compensated =
+    (images : List PageImage) (records : List Record) (head : Head) (stamp : ℕ) (xor : List ℕ)
+    (name : PageName)
     → IsAbove images head → IsAbove images (record head { stamp = stamp }) → ended records head.txn ≡ true
-    → restarted images (Diff head xor ∷ Diff (record head { stamp = stamp }) xor ∷ records) name ≡ restarted images records name
+    → restarted images (Diff head xor ∷ Diff (record head { stamp = stamp }) xor ∷ records) name
+    ≡ restarted images records name
 
 abbrev pub OpenIsNotThere : Type 0
 OpenIsNotThere = (images : List PageImage) (records : List Record) (head : Head) (xor : List ℕ)
@@ -65,5 +82,6 @@ AtMostTheStamp = (images : List PageImage) (records : List Record) (head : Head)
     → IsAtMost images head → ended records head.txn ≡ true → Leaves images records (Diff head xor)
 
 abbrev pub OpenIsTakenBack : Type 0
-OpenIsTakenBack = (images : List PageImage) (records : List Record) (head : Head) (xor : List ℕ) → All (λ x. x < 2 ^ 8) xor
+OpenIsTakenBack =
+    (images : List PageImage) (records : List Record) (head : Head) (xor : List ℕ) → All (λ x. x < 2 ^ 8) xor
     → IsAtMost images head → ended records head.txn ≡ false → Toggles images records head xor

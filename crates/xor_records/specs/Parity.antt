@@ -1,5 +1,6 @@
 -- Bytes whose bits are flipped by the items of a list: `at x i` is the byte that the item x has at place i.
-use Rattle.std.specs.Prelude.{ℕ, zero, suc, Bool, List, [], ◌∷◌, ◌++◌, ◌+◌, ◌*◌, ◌%◌, ◌==◌, map, length, get_or, count_by}
+use Rattle.std.specs.Prelude.{ℕ, zero, suc, Bool, List, [], ◌∷◌, ◌++◌, ◌+◌, ◌*◌, ◌%◌, ◌==◌, map, length}
+use Rattle.std.specs.Prelude.{get_or, count_by}
 use Rattle.std.specs.Int.{bit_at}
 use Rattle.std.specs.List.{range_with_len}
 

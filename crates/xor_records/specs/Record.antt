@@ -3,7 +3,8 @@ use Rattle.std.specs.Prelude.{◌≢◌, ℕ, ◌+◌, ◌-◌, ◌^◌, ◌<◌
 use Rattle.std.specs.Int.{w16, w32, w64, to_le_bytes}
 use Rattle.xor_records.specs.declared.record.Head.{Head}
 
--- a change of a page: its head, and the XOR bytes from the offset on; that a transaction committed; that one ended
+-- a change of a page: its head, and the XOR bytes from the
+-- offset on; that a transaction committed; that one ended
 pub data Record : Type 0 where
   Diff : Head → List ℕ → Record
   Commit : ℕ → Record
@@ -12,7 +13,8 @@ pub data Record : Type 0 where
 -- each field of a head, the lowest byte first
 abbrev pub head_text : Head → List ℕ
 head_text head =
-    to_le_bytes w64 head.txn ++ to_le_bytes w16 head.table ++ to_le_bytes w32 head.page ++ to_le_bytes w64 head.stamp ++ to_le_bytes w16 head.offset
+    to_le_bytes w64 head.txn ++ to_le_bytes w16 head.table ++ to_le_bytes w32 head.page
+    ++ to_le_bytes w64 head.stamp ++ to_le_bytes w16 head.offset
 
 -- how a record is spelled
 unfoldable pub record_text : Record → List ℕ

@@ -1,5 +1,6 @@
 -- The pages that images and a bag of records stand for.
-use Rattle.std.specs.Prelude.{ℕ, Bool, true, false, cond, not, List, [], ◌∷◌, ◌&&◌, ◌||◌, ◌==◌, nat_le, replicate, IsTrue}
+use Rattle.std.specs.Prelude.{ℕ, Bool, true, false, cond, not, List, [], ◌∷◌, ◌&&◌, ◌||◌, ◌==◌, nat_le}
+use Rattle.std.specs.Prelude.{replicate, IsTrue}
 use Rattle.std.specs.List.{list_any}
 use Rattle.fields.specs.Toggle.{byte_from}
 use Rattle.xor_records.specs.declared.record.Head.{Head}
@@ -11,7 +12,8 @@ pub record PageName : Type 0 where
   pub table : ℕ
   pub page : ℕ
 
--- a page as it stood when it had this stamp: it has all the page's changes with stamps up to it, and no others
+-- a page as it stood when it had this stamp: it has all the
+-- page's changes with stamps up to it, and no others
 pub record PageImage : Type 0 where
   pub table : ℕ
   pub page : ℕ
@@ -53,22 +55,27 @@ bytes_of (image ∷ images) name = cond (shows name image) image.bytes (bytes_of
 abbrev pub only_one : Bool → Bool → Bool
 only_one a b = cond a (not b) b
 
--- whether a change is owed to a page whose image has this stamp: its transaction has ended, or its stamp is at most the image's, and not both
+-- whether a change is owed to a page whose image has this stamp: its
+-- transaction has ended, or its stamp is at most the image's, and not both
 abbrev pub is_owed : (ℕ → Bool) → ℕ → Head → Bool
 is_owed has_ended stamp head = only_one (has_ended head.txn) (nat_le head.stamp stamp)
 
 abbrev pub IsOwed : List PageImage → List Record → Head → Type 0
-IsOwed images records head = IsTrue (is_owed (ended records) (stamp_of images (record { table = head.table; page = head.page })) head)
+IsOwed images records head =
+    IsTrue (is_owed (ended records) (stamp_of images (record { table = head.table; page = head.page })) head)
 
 -- the byte that a record has at a place of this page where it is owed to it; else 0, which has no bit set
 abbrev pub owed_byte : (ℕ → Bool) → PageName → ℕ → Record → ℕ → ℕ
-owed_byte has_ended name stamp (Diff head xor) i = cond (is_of name head && is_owed has_ended stamp head) (byte_from head.offset xor i) 0
+owed_byte has_ended name stamp (Diff head xor) i =
+    cond (is_of name head && is_owed has_ended stamp head) (byte_from head.offset xor i) 0
 owed_byte has_ended name stamp (Commit txn) i = 0
 owed_byte has_ended name stamp (End txn) i = 0
 
--- The bytes of a page: a bit is the image's where an even number of the page's owed records has it set, and the opposite where an odd number has.
+-- The bytes of a page: a bit is the image's where an even number of the
+-- page's owed records has it set, and the opposite where an odd number has.
 unfoldable pub restarted : List PageImage → List Record → PageName → List ℕ
-restarted images records name = flipped (owed_byte (ended records) name (stamp_of images name)) (bytes_of images name) records
+restarted images records name =
+    flipped (owed_byte (ended records) name (stamp_of images name)) (bytes_of images name) records
 
 -- the record is a change of this page
 abbrev pub changes : PageName → Record → Bool

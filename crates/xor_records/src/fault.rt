@@ -1,6 +1,7 @@
 // Why bytes are no record.
 ghost use Rattle.std.specs.Prelude.{◌≡◌, None};
-ghost use Rattle.xor_records.specs.Fault.{txn_fault, stamp_fault, length_fault, xor_fault, diff_fault, record_fault};
+ghost use Rattle.xor_records.specs.Fault.{txn_fault, stamp_fault, length_fault, xor_fault, diff_fault};
+ghost use Rattle.xor_records.specs.Fault.{record_fault};
 
 use crate::places::{COMMIT, DIFF, END, length_at, offset_at, stamp_at, txn_at};
 use thiserror::Error;

@@ -1,6 +1,7 @@
 // What holds of the pages that images and records stand for, each law the contract of a function that does
 // nothing.
-ghost use Rattle.xor_records.specs.Laws.{EachBitHasItsParity, NoOrder, AnyParts, EndedToggles, Compensated, OpenIsNotThere, AtMostTheStamp, OpenIsTakenBack};
+ghost use Rattle.xor_records.specs.Laws.{EachBitHasItsParity, NoOrder, AnyParts, EndedToggles, Compensated};
+ghost use Rattle.xor_records.specs.Laws.{OpenIsNotThere, AtMostTheStamp, OpenIsTakenBack};
 
 /// A bit is the image's where an even number of the page's owed records has it set, and the opposite where
 /// an odd number has.

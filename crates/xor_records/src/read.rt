@@ -1,5 +1,6 @@
 // Reads records.
-ghost use Rattle.std.specs.Prelude.{◌≡◌, ◌↔◌, ◌+◌, ◌≤◌, ◌++◌, ℕ, List, length, take, Ok, Err, Some, None, IfOk};
+ghost use Rattle.std.specs.Prelude.{◌≡◌, ◌↔◌, ◌+◌, ◌≤◌, ◌++◌, ℕ, List, length, take, Ok, Err, Some, None};
+ghost use Rattle.std.specs.Prelude.{IfOk};
 ghost use Rattle.xor_records.specs.Record.{Record, Diff, IsRecord, record_text};
 ghost use Rattle.xor_records.specs.Places.{length_at, xor_at};
 ghost use Rattle.xor_records.specs.Fault.{record_fault};
