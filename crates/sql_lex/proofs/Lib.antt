@@ -4,3 +4,4 @@ pub mod Gaps
 pub mod GapShape
 pub mod Literals
 pub mod Runs
+pub mod Lone

@@ -7,6 +7,7 @@ mod laws;
 mod lexing;
 mod scanning;
 mod shapes;
+mod sole;
 mod token;
 
 pub use causes::OutOfMemory;
@@ -14,4 +15,5 @@ pub use keyword::Keyword;
 pub use laws::{each_text_has_tokens, one_end, one_token_list};
 pub use lexing::{LexFault, lex};
 pub use scanning::{Scan, ScanEnd, scan_tokens};
+pub use sole::{is_empty, sole_token};
 pub use token::{Sign, Token, TokenKind};
