@@ -1,0 +1,12 @@
+pub mod Acting
+pub mod BlockLaws
+pub mod CallLaws
+pub mod Cells
+pub mod Checked
+pub mod KeptRange
+pub mod MeaningLaws
+pub mod NothingUsedUp
+pub mod PlanLaws
+pub mod Running
+pub mod Stays
+pub mod Viewing

@@ -1,0 +1,11 @@
+pub mod Blocks
+pub mod CallPlays
+pub mod CallRows
+pub mod Calls
+pub mod Lacks
+pub mod Meaning
+pub mod PlanMeaning
+pub mod Refusals
+pub mod Runs
+pub mod Values
+pub mod Views
