@@ -10,3 +10,5 @@ pub mod Putting
 pub mod ReadingSchemas
 pub mod SchemaTextLaws
 pub mod TablesLaws
+pub mod PageLaws
+pub mod CheckedSlots

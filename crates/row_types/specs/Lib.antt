@@ -1,5 +1,7 @@
 pub mod Block
 pub mod Keys
+pub mod Page
+pub mod PageTables
 pub mod Reading
 pub mod Schema
 pub mod SchemaReading

@@ -9,7 +9,7 @@ use crate::{Column, Kind, OutOfMemory, Row, SlotFault, Text, Value};
 use std::alloc::Global;
 
 /// The bytes that a column of this kind takes.
-fn width(kind: Kind) -> usize
+pub(crate) fn width(kind: Kind) -> usize
     ensures value { result ≡ width kind }
     ensures small { result < 2 ^ 17 }
 {
@@ -85,7 +85,7 @@ fn zeros_in_words(bytes: &[u8]) -> usize
     len
 }
 
-fn first_not_zero(at: usize, bytes: &[u8]) -> Option<usize>
+pub(crate) fn first_not_zero(at: usize, bytes: &[u8]) -> Option<usize>
     requires { at + length bytes.now < 2 ^ 64 }
     ensures { result ≡ first_not_zero at bytes.now }
 {
@@ -186,7 +186,11 @@ fn put_cell(kind: Kind, value: &Value, into: &mut [u8])
     }
 }
 
-fn cells_values(alloc: Global, columns: &[Column], bytes: &[u8]) -> Result<Row, OutOfMemory>
+pub(crate) fn cells_values(
+    alloc: Global,
+    columns: &[Column],
+    bytes: &[u8],
+) -> Result<Row, OutOfMemory>
     requires whole { widths columns.now ≤ length bytes.now }
     requires sound { cells_fault 1 columns.now bytes.now ≡ None }
     ensures { IfOk result (λ row. row ≡ cells_values columns.now bytes.now) }
