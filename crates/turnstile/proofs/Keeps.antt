@@ -1,5 +1,5 @@
 -- Each step of one seat keeps the rule.
-use Rattle.std.proofs.Common.{◌≡◌, ◌≢◌, ⊎_elim, ℕ, zero, suc, ◌+◌, ◌-◌, ◌*◌, ◌%◌, ◌^◌, ◌<◌, ◌≤◌, eqb, eq-eqb, ne_eqb, cond, List, [], ◌∷◌, ◌++◌, get_or, set, sym, refl, ap, ◌∙◌, subst, arith, mod-eq_of_lt, eq-zero-or-pos}
+use Rattle.std.proofs.Common.{◌≡◌, ◌≢◌, ⊎_elim, ℕ, zero, suc, ◌+◌, ◌-◌, ◌*◌, ◌%◌, ◌^◌, ◌<◌, ◌≤◌, eqb, eq-eqb, ne_eqb, cond, List, [], ◌∷◌, ◌++◌, get_or, set, sym, refl, ap, ◌∙◌, subst, arith, mod-eq_of_lt}
 use Rattle.std.specs.Prelude.{Option, Some, None}
 use mathlib.Core.Option.{some, none, some-injective, some-ne-none}
 use mathlib.Core.Option as maybe
@@ -11,9 +11,9 @@ use Rattle.atomic_table.proofs.Lists.{at_set, set_else, set_again}
 use Rattle.turnstile.specs.declared.view.View.{View}
 use Rattle.turnstile.specs.declared.view.Stage.{Stage}
 use Rattle.turnstile.specs.declared.view.Stage.TheVariants.{Idle, Waiting, Inside, Filling}
-use Rattle.turnstile.specs.History.{Begins, of_pass, entries, tagged, Owned, MayAdd, times, mine_of}
-use Rattle.turnstile.specs.Turns.{Room, Queued, Called, Stands, Fits, Busy, Slot, Kept, rights, total}
-use Rattle.turnstile.specs.Steps.{with_ticket, staged, seeing, entered, draws, looks, learns, opens, serves, IsCalled, number_of, first_mine, IsOne, with_entries}
+use Rattle.turnstile.specs.History.{Begins, of_pass, entries, tagged, MayAdd, times, mine_of}
+use Rattle.turnstile.specs.Turns.{Room, Queued, Stands, Fits, Busy, Slot, Kept, rights, total}
+use Rattle.turnstile.specs.Steps.{with_ticket, seeing, entered, draws, looks, learns, opens, serves, number_of, first_mine, IsOne, with_entries}
 use Rattle.turnstile.proofs.Histories.{begins_same, begins_more, of_others, of_mine, owned_more, times_one, mine_one, one_only, one_at_most, entries_more}
 
 spend : (d t t' l x : ℕ) → 0 < l → t' + (l + x) ≡ t + ((l - 1) + x) → d + t ≡ 4611686018427387905 → (d + 1) + t' ≡ 4611686018427387905

@@ -1,6 +1,6 @@
 -- How passes are made, meet and are put together.
 use Rattle.std.proofs.Common.{◌≡◌, ◌≢◌, ◌⊎◌, inl, inr, ⊎_elim, ℕ, zero, suc, ◌+◌, ◌-◌, ◌*◌, ◌<◌, ◌≤◌, eqb, eq-eqb, ne_eqb, cond, List, [], ◌∷◌, ◌++◌, length, set, sym, refl, ap, ◌∙◌, subst, arith, eq-zero-or-pos, append-nil}
-use Rattle.std.specs.Prelude.{Option, Some, None}
+use Rattle.std.specs.Prelude.{Option, None}
 use mathlib.Core.Option.{some, some-injective, some-ne-none}
 use lib.ListN.{get_elem?}
 use Rattle.atomic_table.specs.Table.{Splits, Joins, opening}
@@ -12,7 +12,7 @@ use Rattle.turnstile.specs.History.{Begins, of_pass, times, mine_of}
 use Rattle.turnstile.specs.Turns.{Room, Stands, Fits, Busy, Slot, Kept, rights, total}
 use Rattle.turnstile.specs.Steps.{first_view, spent_view, after_pass, new_pass, note, joined}
 use Rattle.turnstile.proofs.Histories.{times_append, mine_first, mine_later, one_only, one_at_most}
-use Rattle.turnstile.proofs.Keeps.{put, put_here, put_else, apart, each_set, total_set, not_here, still_busy}
+use Rattle.turnstile.proofs.Keeps.{put, put_here, put_else, apart, each_set, total_set, still_busy}
 use Rattle.turnstile.proofs.Values.{none_is, some_same}
 
 at_end : {A : Type 0} (l : List A) (a b : A) (j : ℕ) → get_elem? (l ++ a ∷ []) j ≡ some b → (get_elem? l j ≡ some b) ⊎ ((j ≡ length l) × (a ≡ b))

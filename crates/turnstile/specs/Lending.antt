@@ -1,6 +1,6 @@
 -- A turn lends the value.
 use Rattle.std.specs.Borrow.{Lends, MutBor, Fml}
-use Rattle.std.specs.Prelude.{[], ◌∷◌, Some}
+use Rattle.std.specs.Prelude.{[], Some}
 use denote.RattleType.{RattleType}
 use mir.Syntax.{named}
 use Rattle.atomic_table.specs.Lent.{seat_with}
@@ -19,4 +19,8 @@ abbrev pub LendsValue : (R S : RattleType) → Ghosts R.Denot S.Denot → MutBor
     → MutBor R.Denot → Fml
 LendsValue R S t s r =
     Lends (the_row (record { mir = named 1; lft = [] }) (record { mir = named 2; lft = [] }) R S t) R s r
-    (λ w. record s.now { pass = record s.now.pass { now = record s.now.pass.now { seat = seat_with s.now.pass.now.seat 0 (Some w) } } })
+    (λ w. record s.now {
+      pass = record s.now.pass {
+        now = record s.now.pass.now { seat = seat_with s.now.pass.now.seat 0 (Some w) };
+      };
+    })

@@ -63,17 +63,35 @@ fn give_way(tries: u32) {
     }
 }
 
-/// Waits a while for a moment at which nobody has a ticket. Tickets are served in order, so a thread that
+/// Whether nobody has a ticket.
+#[inline]
+fn is_free<M: Told>(door: &Door<M>) -> bool
+    requires { door.now.table_id.words ≡ 3 }
+{
+    door.peek(SERVED) == door.peek(DRAWN)
+}
+
+/// Waits a while for a moment at which nobody has a ticket.
+#[cold]
+fn hold_back<M: Told>(door: &Door<M>)
+    requires { door.now.table_id.words ≡ 3 }
+{
+    for tries in 0..APPROACHES {
+        give_way(tries);
+        if is_free(door) {
+            return;
+        }
+    }
+}
+
+/// Lets those go first who have a ticket, but only for a while. Tickets are served in order, so a thread that
 /// drew one and was then put off by the system would hold up all others; so few have one at a time.
 #[inline]
 pub fn approach<M: Told>(door: &Door<M>)
     requires { door.now.table_id.words ≡ 3 }
 {
-    for tries in 0..APPROACHES {
-        if door.peek(SERVED) == door.peek(DRAWN) {
-            return;
-        }
-        give_way(tries);
+    if !is_free(door) {
+        hold_back(door);
     }
 }
 

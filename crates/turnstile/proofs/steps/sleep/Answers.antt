@@ -1,4 +1,4 @@
-use Rattle.std.proofs.Common.{ℕ, ◌+◌, ◌-◌, ◌%◌, ◌^◌, ◌∙◌, arith}
+use Rattle.std.proofs.Common.{◌+◌, ◌-◌, ◌%◌, ◌^◌, ◌∙◌, arith}
 use Rattle.turnstile.proofs.Keeps.{rests_keep}
 use Rattle.turnstile.proofs.steps.sleep.Goals as goal
 

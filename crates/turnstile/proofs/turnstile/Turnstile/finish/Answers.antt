@@ -1,5 +1,5 @@
-use Rattle.std.proofs.Common.{◌≡◌, ◌+◌, ◌++◌, ◌<◌, sym, ap, ◌∙◌, subst, length}
-use Rattle.turnstile.specs.Passes.{parts_of, made_by, view}
+use Rattle.std.proofs.Common.{◌+◌, ◌++◌, ◌<◌, sym, ap, ◌∙◌, subst, length}
+use Rattle.turnstile.specs.Passes.{parts_of, made_by}
 use Rattle.turnstile.specs.Whole.{Hears}
 use Rattle.turnstile.proofs.Gathering.{all_front, last_is, whole, parts_length, sums}
 use Rattle.turnstile.proofs.turnstile.Turnstile.finish.Goals as goal

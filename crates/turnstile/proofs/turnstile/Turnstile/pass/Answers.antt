@@ -1,7 +1,4 @@
-use Rattle.std.proofs.Common.{◌≡◌, ℕ, ◌<◌, sym, ap, ◌∙◌, subst, refl, arith}
-use Rattle.turnstile.specs.History.{Begins, of_pass, times, mine_of}
-use Rattle.turnstile.specs.Steps.{IsOne, number_of, first_mine, seeing}
-use Rattle.turnstile.proofs.Histories.{knows_new}
+use Rattle.std.proofs.Common.{◌<◌, ap, ◌∙◌, subst, arith}
 use Rattle.turnstile.proofs.Keeps.{learns_keep}
 use Rattle.turnstile.proofs.Passing.{pass_splits}
 use Rattle.turnstile.proofs.turnstile.Turnstile.pass.Goals as goal

@@ -1,4 +1,4 @@
-use Rattle.std.proofs.Common.{◌≡◌, ◌++◌, ◌∷◌, [], sym, ap, ◌∙◌, subst, refl}
+use Rattle.std.proofs.Common.{◌≡◌, ◌++◌, ◌∷◌, sym, ap, ◌∙◌, subst, refl}
 use Rattle.std.specs.Prelude.{Some}
 use Rattle.turnstile.specs.History.{of_pass, tagged}
 use Rattle.turnstile.specs.Steps.{IsOne, number_of, first_mine}
