@@ -1,0 +1,2 @@
+mod Some
+mod Own
