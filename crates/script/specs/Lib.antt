@@ -1,0 +1,9 @@
+pub mod Blocks
+pub mod Building
+pub mod Faults
+pub mod Headers
+pub mod Lines
+pub mod Reached
+pub mod Reading
+pub mod Script
+pub mod Statements
