@@ -1,0 +1,2 @@
+mod ApartLaws
+mod Printing
