@@ -1,0 +1,4 @@
+pub mod Finds
+pub mod Pieces
+pub mod Told
+pub mod Walks
