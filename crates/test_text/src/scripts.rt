@@ -272,6 +272,14 @@ fn repeated(alloc: Global, line: &[u8], times: usize) -> Result<Vec<u8>, OutOfMe
 }
 
 #[test]
+fn long_scripts_are_read(rt: HostRuntime) -> Result<(), Fail> {
+    let alloc = rt.alloc();
+    let statements = repeated(alloc, b"INSERT INTO kv VALUES (1, 'a');\n", 400)?;
+    assert_eq!(rt; blocks_in(alloc, &statements), Ok(400));
+    Ok(())
+}
+
+#[test]
 fn great_scripts_are_read(rt: HostRuntime) -> Result<(), Fail> {
     let alloc = rt.alloc();
     let statements = repeated(alloc, b"INSERT INTO kv VALUES (1, 'a');\n", 200_000)?;
