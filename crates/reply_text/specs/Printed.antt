@@ -2,6 +2,7 @@
 use Rattle.std.specs.Prelude.{◌≡◌, ℕ, ◌≤◌, true, false, List, [], ◌++◌, Option, Result, OnOk, OnErr}
 use Rattle.std.specs.Option.{option_map}
 use Rattle.causes.specs.Causes.{Rose}
+use Rattle.io_edge.specs.declared.sink.Sink.{Ghosts}
 use Rattle.reply_text.specs.declared.printer.Printer.{Printer}
 
 -- Of a text printed since the sink had taken `start` and had failed
@@ -17,10 +18,11 @@ pub record IsPrinted (start : Option (List ℕ)) (before : ℕ) (text : List ℕ
   pub later : before ≤ now
 
 -- whatever was printed before, this piece comes after it
-abbrev pub Prints : Printer → Option (List ℕ) → ℕ → List ℕ → Printer → Option (List ℕ) → ℕ → Type 0
-Prints p taken now piece p' taken' now' =
-    (start : Option (List ℕ)) (before : ℕ) (text : List ℕ) → IsPrinted start before text p taken now
-    → IsPrinted start before (text ++ piece) p' taken' now'
+abbrev pub Prints : {K : Type 0} → Ghosts K → Printer → K → List ℕ → Printer → K → Type 0
+Prints k old sink piece new sink' =
+    (start : Option (List ℕ)) (before : ℕ) (text : List ℕ)
+    → IsPrinted start before text old (k.taken sink) (k.faults sink)
+    → IsPrinted start before (text ++ piece) new (k.taken sink') (k.faults sink')
 
 -- at the end of the text: the sink took it whole, or it failed and took a front of it
 pub record EndsPrinted {T E : Type 0} (start : Option (List ℕ)) (before : ℕ) (text : List ℕ)

@@ -45,8 +45,7 @@ pub enum Fault {
 impl Printer {
     /// Prints the last line of a run that ends with this fault.
     pub fn last_line<K: Sink>(&mut self, sink: &mut K, fault: Fault)
-        ensures { Prints self.old (K.taken sink.old) (K.faults sink.old)
-            (last_line fault) self.new (K.taken sink.new) (K.faults sink.new) }
+        ensures { Prints K.Sink self.old sink.old (last_line fault) self.new sink.new }
     {
         self.print(sink, "fault ");
         print_fault(fault, self, sink);
@@ -55,8 +54,7 @@ impl Printer {
 }
 
 fn print_fault<K: Sink>(fault: Fault, printer: &mut Printer, sink: &mut K)
-    ensures { Prints printer.old (K.taken sink.old) (K.faults sink.old)
-        (fault_text fault) printer.new (K.taken sink.new) (K.faults sink.new) }
+    ensures { Prints K.Sink printer.old sink.old (fault_text fault) printer.new sink.new }
 {
     match fault {
         Fault::Usage => printer.print(sink, "USAGE"),
@@ -85,9 +83,8 @@ fn print_fault<K: Sink>(fault: Fault, printer: &mut Printer, sink: &mut K)
 
 // Two numbers with a space between them.
 fn print_pair<K: Sink>(first: u64, second: u64, printer: &mut Printer, sink: &mut K)
-    ensures { Prints printer.old (K.taken sink.old) (K.faults sink.old)
-        (decimal first ++ (codes " " ++ decimal second)) printer.new
-        (K.taken sink.new) (K.faults sink.new) }
+    ensures { Prints K.Sink printer.old sink.old
+        (decimal first ++ (codes " " ++ decimal second)) printer.new sink.new }
 {
     printer.print_number(sink, first);
     printer.print(sink, " ");
@@ -95,8 +92,7 @@ fn print_pair<K: Sink>(first: u64, second: u64, printer: &mut Printer, sink: &mu
 }
 
 fn print_place<K: Sink>(place: Place, printer: &mut Printer, sink: &mut K)
-    ensures { Prints printer.old (K.taken sink.old) (K.faults sink.old)
-        (place_text place) printer.new (K.taken sink.new) (K.faults sink.new) }
+    ensures { Prints K.Sink printer.old sink.old (place_text place) printer.new sink.new }
 {
     match place {
         Place::File { file, at } => {
@@ -120,8 +116,7 @@ fn print_place<K: Sink>(place: Place, printer: &mut Printer, sink: &mut K)
 }
 
 fn print_file<K: Sink>(file: FileName, printer: &mut Printer, sink: &mut K)
-    ensures { Prints printer.old (K.taken sink.old) (K.faults sink.old)
-        (file_text file) printer.new (K.taken sink.new) (K.faults sink.new) }
+    ensures { Prints K.Sink printer.old sink.old (file_text file) printer.new sink.new }
 {
     match file {
         FileName::AreaA => printer.print(sink, "area.a"),

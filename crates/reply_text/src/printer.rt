@@ -12,13 +12,12 @@ pub struct Printer {
 }
 
 impl Printer {
-    ghost use Rattle.std.specs.Prelude.{◌≡◌, ◌≤◌, ℕ, List, [], ◌∷◌, ◌++◌, false, length, Option};
+    ghost use Rattle.std.specs.Prelude.{◌≡◌, ℕ, List, [], ◌∷◌, Option};
     ghost use Rattle.reply_text.specs.Printed.{EndsPrinted, IsPrinted, Prints};
 
     /// A printer that has printed nothing.
     pub fn new() -> Printer
-        ensures page { result.page.items ≡ [] }
-        ensures failed { result.failed ≡ false }
+        ensures { (taken : Option (List ℕ)) (faults : ℕ) → IsPrinted taken faults [] result taken faults }
     {
         Printer {
             page: ArrayVec::new(),
@@ -28,8 +27,7 @@ impl Printer {
 
     // Prints a byte.
     pub(crate) fn print_byte<K: Sink>(&mut self, sink: &mut K, byte: u8)
-        ensures { Prints self.old (K.taken sink.old) (K.faults sink.old)
-            (byte ∷ []) self.new (K.taken sink.new) (K.faults sink.new) }
+        ensures { Prints K.Sink self.old sink.old (byte ∷ []) self.new sink.new }
     {
         if self.page.is_full() {
             self.flush(sink);
@@ -39,8 +37,7 @@ impl Printer {
 
     // Prints a text.
     pub(crate) fn print<K: Sink>(&mut self, sink: &mut K, text: &str)
-        ensures { Prints self.old (K.taken sink.old) (K.faults sink.old) text.now self.new (K.taken sink.new)
-            (K.faults sink.new) }
+        ensures { Prints K.Sink self.old sink.old text.now self.new sink.new }
     {
         for byte in text.as_bytes() {
             self.print_byte(sink, *byte);
@@ -49,8 +46,7 @@ impl Printer {
 
     // Prints a number in decimal.
     pub(crate) fn print_number<K: Sink, N: Integer>(&mut self, sink: &mut K, number: N)
-        ensures { Prints self.old (K.taken sink.old) (K.faults sink.old)
-            (N.text number) self.new (K.taken sink.new) (K.faults sink.new) }
+        ensures { Prints K.Sink self.old sink.old (N.text number) self.new sink.new }
     {
         let mut buffer = Buffer::new();
         self.print(sink, buffer.format(number));
@@ -68,8 +64,7 @@ impl Printer {
     }
 
     fn flush<K: Sink>(&mut self, sink: &mut K)
-        ensures printed { Prints self.old (K.taken sink.old)
-            (K.faults sink.old) [] self.new (K.taken sink.new) (K.faults sink.new) }
+        ensures printed { Prints K.Sink self.old sink.old [] self.new sink.new }
         ensures empty { self.new.page.items ≡ [] }
     {
         if self.failed {

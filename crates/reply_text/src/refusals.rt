@@ -93,8 +93,7 @@ fn refusal_numbers<'a>(refusal: &'a Refusal) -> Numbers<'a>
 
 // A number behind a space.
 fn print_one<K: Sink>(number: u64, printer: &mut Printer, sink: &mut K)
-    ensures { Prints printer.old (K.taken sink.old) (K.faults sink.old)
-        (numbers_text (pos number ∷ [])) printer.new (K.taken sink.new) (K.faults sink.new) }
+    ensures { Prints K.Sink printer.old sink.old (numbers_text (pos number ∷ [])) printer.new sink.new }
 {
     printer.print(sink, " ");
     printer.print_number(sink, number);
@@ -102,8 +101,7 @@ fn print_one<K: Sink>(number: u64, printer: &mut Printer, sink: &mut K)
 
 // A number of a key behind a space.
 fn print_signed<K: Sink>(number: i64, printer: &mut Printer, sink: &mut K)
-    ensures { Prints printer.old (K.taken sink.old) (K.faults sink.old)
-        (numbers_text (number ∷ [])) printer.new (K.taken sink.new) (K.faults sink.new) }
+    ensures { Prints K.Sink printer.old sink.old (numbers_text (number ∷ [])) printer.new sink.new }
 {
     printer.print(sink, " ");
     printer.print_number(sink, number);
@@ -111,8 +109,7 @@ fn print_signed<K: Sink>(number: i64, printer: &mut Printer, sink: &mut K)
 
 // The numbers of a key, each behind a space.
 fn print_key<K: Sink>(key: &[i64], printer: &mut Printer, sink: &mut K)
-    ensures { Prints printer.old (K.taken sink.old) (K.faults sink.old)
-        (numbers_text key.now) printer.new (K.taken sink.new) (K.faults sink.new) }
+    ensures { Prints K.Sink printer.old sink.old (numbers_text key.now) printer.new sink.new }
 {
     for number in key {
         print_signed(*number, printer, sink);
@@ -120,8 +117,7 @@ fn print_key<K: Sink>(key: &[i64], printer: &mut Printer, sink: &mut K)
 }
 
 fn print_numbers<K: Sink>(numbers: Numbers<'_>, printer: &mut Printer, sink: &mut K)
-    ensures { Prints printer.old (K.taken sink.old) (K.faults sink.old)
-        (numbers_text (as_list numbers.entry)) printer.new (K.taken sink.new) (K.faults sink.new) }
+    ensures { Prints K.Sink printer.old sink.old (numbers_text (as_list numbers.entry)) printer.new sink.new }
 {
     match numbers {
         Numbers::None => {}
@@ -136,9 +132,8 @@ fn print_numbers<K: Sink>(numbers: Numbers<'_>, printer: &mut Printer, sink: &mu
 
 // The word of a refusal, and its numbers.
 pub(crate) fn print_refusal<K: Sink>(refusal: &Refusal, printer: &mut Printer, sink: &mut K)
-    ensures { Prints printer.old (K.taken sink.old) (K.faults sink.old)
-        (refusal_word refusal.now ++ numbers_text (refusal_numbers refusal.now)) printer.new
-        (K.taken sink.new) (K.faults sink.new) }
+    ensures { Prints K.Sink printer.old sink.old
+        (refusal_word refusal.now ++ numbers_text (refusal_numbers refusal.now)) printer.new sink.new }
 {
     printer.print(sink, refusal_word(refusal));
     print_numbers(refusal_numbers(refusal), printer, sink);

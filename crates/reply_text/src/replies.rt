@@ -14,8 +14,7 @@ use row_types::Name;
 impl Printer {
     /// Prints the lines of a reply.
     pub fn reply<K: Sink>(&mut self, sink: &mut K, reply: &Reply)
-        ensures { Prints self.old (K.taken sink.old) (K.faults sink.old)
-            (reply_text reply.now) self.new (K.taken sink.new) (K.faults sink.new) }
+        ensures { Prints K.Sink self.old sink.old (reply_text reply.now) self.new sink.new }
     {
         match reply {
             Reply::Done => self.print(sink, "ok\n"),
@@ -35,8 +34,7 @@ impl Printer {
 
     /// Prints the header of a section: the setup's, or that of the session with this number.
     pub fn header<K: Sink>(&mut self, sink: &mut K, session: Option<u64>)
-        ensures { Prints self.old (K.taken sink.old) (K.faults sink.old)
-            (header_line session) self.new (K.taken sink.new) (K.faults sink.new) }
+        ensures { Prints K.Sink self.old sink.old (header_line session) self.new sink.new }
     {
         match session {
             None => self.print(sink, "setup\n"),
@@ -46,8 +44,7 @@ impl Printer {
 
     /// Prints the line above the rows of a table with this name.
     pub fn table<K: Sink>(&mut self, sink: &mut K, name: &Name)
-        ensures { Prints self.old (K.taken sink.old) (K.faults sink.old)
-            (table_line name.now) self.new (K.taken sink.new) (K.faults sink.new) }
+        ensures { Prints K.Sink self.old sink.old (table_line name.now) self.new sink.new }
     {
         self.print(sink, "table ");
         self.print(sink, name.as_str());
@@ -56,16 +53,14 @@ impl Printer {
 
     /// Prints the line of a block that a fault of a disk stopped, or that came after it.
     pub fn stopped<K: Sink>(&mut self, sink: &mut K)
-        ensures { Prints self.old (K.taken sink.old) (K.faults sink.old)
-            (codes "stopped\n") self.new (K.taken sink.new) (K.faults sink.new) }
+        ensures { Prints K.Sink self.old sink.old (codes "stopped\n") self.new sink.new }
     {
         self.print(sink, "stopped\n");
     }
 
     /// Prints the line of a block that found no memory, or that came after it.
     pub fn stopped_for_memory<K: Sink>(&mut self, sink: &mut K)
-        ensures { Prints self.old (K.taken sink.old) (K.faults sink.old)
-            (codes "stopped MEMORY\n") self.new (K.taken sink.new) (K.faults sink.new) }
+        ensures { Prints K.Sink self.old sink.old (codes "stopped MEMORY\n") self.new sink.new }
     {
         self.print(sink, "stopped MEMORY\n");
     }
@@ -73,8 +68,8 @@ impl Printer {
 
 // A line of a word and a number.
 fn print_count<K: Sink>(word: &str, number: u64, printer: &mut Printer, sink: &mut K)
-    ensures { Prints printer.old (K.taken sink.old) (K.faults sink.old)
-        (word.now ++ (decimal number ++ codes "\n")) printer.new (K.taken sink.new) (K.faults sink.new) }
+    ensures { Prints K.Sink printer.old sink.old
+        (word.now ++ (decimal number ++ codes "\n")) printer.new sink.new }
 {
     printer.print(sink, word);
     printer.print_number(sink, number);

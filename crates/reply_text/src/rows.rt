@@ -11,8 +11,7 @@ use row_types::{Items, Row, Value};
 
 // A text, each quote in it twice.
 fn print_doubled<K: Sink>(bytes: &[u8], printer: &mut Printer, sink: &mut K)
-    ensures { Prints printer.old (K.taken sink.old) (K.faults sink.old)
-        (doubled bytes.now) printer.new (K.taken sink.new) (K.faults sink.new) }
+    ensures { Prints K.Sink printer.old sink.old (doubled bytes.now) printer.new sink.new }
 {
     for byte in bytes {
         print_quotable(*byte, printer, sink);
@@ -21,8 +20,7 @@ fn print_doubled<K: Sink>(bytes: &[u8], printer: &mut Printer, sink: &mut K)
 
 // A byte of a text, twice where it is a quote.
 fn print_quotable<K: Sink>(byte: u8, printer: &mut Printer, sink: &mut K)
-    ensures { Prints printer.old (K.taken sink.old) (K.faults sink.old)
-        (doubled (byte ∷ [])) printer.new (K.taken sink.new) (K.faults sink.new) }
+    ensures { Prints K.Sink printer.old sink.old (doubled (byte ∷ [])) printer.new sink.new }
 {
     if byte == b'\'' {
         printer.print(sink, "''");
@@ -32,8 +30,7 @@ fn print_quotable<K: Sink>(byte: u8, printer: &mut Printer, sink: &mut K)
 }
 
 fn print_value<K: Sink>(value: &Value, printer: &mut Printer, sink: &mut K)
-    ensures { Prints printer.old (K.taken sink.old) (K.faults sink.old)
-        (value_text value.now) printer.new (K.taken sink.new) (K.faults sink.new) }
+    ensures { Prints K.Sink printer.old sink.old (value_text value.now) printer.new sink.new }
 {
     match value {
         Value::Int(number) => printer.print_number(sink, *number),
@@ -47,8 +44,7 @@ fn print_value<K: Sink>(value: &Value, printer: &mut Printer, sink: &mut K)
 
 // The values of a row behind the first.
 fn print_more<K: Sink>(values: &[Value], printer: &mut Printer, sink: &mut K)
-    ensures { Prints printer.old (K.taken sink.old) (K.faults sink.old)
-        (flat_map more_text values.now) printer.new (K.taken sink.new) (K.faults sink.new) }
+    ensures { Prints K.Sink printer.old sink.old (flat_map more_text values.now) printer.new sink.new }
 {
     for value in values {
         printer.print(sink, ", ");
@@ -57,8 +53,7 @@ fn print_more<K: Sink>(values: &[Value], printer: &mut Printer, sink: &mut K)
 }
 
 fn print_row<K: Sink>(row: &Row, printer: &mut Printer, sink: &mut K)
-    ensures { Prints printer.old (K.taken sink.old) (K.faults sink.old)
-        (row_text row.now) printer.new (K.taken sink.new) (K.faults sink.new) }
+    ensures { Prints K.Sink printer.old sink.old (row_text row.now) printer.new sink.new }
 {
     if let [first, rest @ ..] = row.as_slice() {
         print_value(first, printer, sink);
@@ -69,8 +64,7 @@ fn print_row<K: Sink>(row: &Row, printer: &mut Printer, sink: &mut K)
 
 // The lines of rows, each printed before the next is looked at.
 pub(crate) fn print_rows<K: Sink>(rows: &Items<Row>, printer: &mut Printer, sink: &mut K)
-    ensures { Prints printer.old (K.taken sink.old) (K.faults sink.old)
-        (flat_map row_text rows.now) printer.new (K.taken sink.new) (K.faults sink.new) }
+    ensures { Prints K.Sink printer.old sink.old (flat_map row_text rows.now) printer.new sink.new }
 {
     for row in rows.as_slice() {
         print_row(row, printer, sink);

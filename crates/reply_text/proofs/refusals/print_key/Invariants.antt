@@ -5,4 +5,4 @@ use Rattle.reply_text.proofs.refusals.print_key.Given as goal
 
 abbrev pub invariant-loop-number : goal.invariant-loop-number
 invariant-loop-number g l =
-    Prints l.fn.printer (g.K.Sink.taken l.fn.sink) (g.K.Sink.faults l.fn.sink) (numbers_text (take l.number-index l.key)) l.printer (g.K.Sink.taken l.sink) (g.K.Sink.faults l.sink)
+    Prints g.K.Sink l.fn.printer l.fn.sink (numbers_text (take l.number-index l.key)) l.printer l.sink

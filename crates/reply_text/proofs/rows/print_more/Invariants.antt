@@ -6,4 +6,4 @@ use Rattle.reply_text.proofs.rows.print_more.Given as goal
 
 abbrev pub invariant-loop-value : goal.invariant-loop-value
 invariant-loop-value g l =
-    Prints l.fn.printer (g.K.Sink.taken l.fn.sink) (g.K.Sink.faults l.fn.sink) (flat_map more_text (take l.value-index l.values)) l.printer (g.K.Sink.taken l.sink) (g.K.Sink.faults l.sink)
+    Prints g.K.Sink l.fn.printer l.fn.sink (flat_map more_text (take l.value-index l.values)) l.printer l.sink

@@ -6,4 +6,4 @@ use Rattle.reply_text.proofs.rows.print_rows.Given as goal
 
 abbrev pub invariant-loop-row : goal.invariant-loop-row
 invariant-loop-row g l =
-    Prints l.fn.printer (g.K.Sink.taken l.fn.sink) (g.K.Sink.faults l.fn.sink) (flat_map row_text (take l.row-index l.row-items)) l.printer (g.K.Sink.taken l.sink) (g.K.Sink.faults l.sink)
+    Prints g.K.Sink l.fn.printer l.fn.sink (flat_map row_text (take l.row-index l.row-items)) l.printer l.sink
