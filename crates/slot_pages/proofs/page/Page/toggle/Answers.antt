@@ -1,0 +1,18 @@
+use Rattle.std.proofs.Common.{subst, sym, refl}
+use Rattle.block_pool.specs.Blocks.{Holds}
+use Rattle.slot_pages.specs.State.{bytes_in, IsPage}
+use Rattle.slot_pages.proofs.PageKept.{page_written}
+use Rattle.slot_pages.proofs.page.Page.toggle.Goals as goal
+
+pub bytes_mut-requires : goal.bytes_mut-requires
+bytes_mut-requires c = (
+  bytes_in c.args.pool.now c.args.self.now,
+  subst (λ s. Holds c.args.pool.now s.block (bytes_in c.args.pool.now c.args.self.now))
+      (sym c.self.view_is) c.requires.page.out,
+)
+
+pub returns-clause-kept : goal.returns-clause-kept
+returns-clause-kept c =
+    page_written c.args.pool.now _ _ c.args.xor.now c.bytes_mut.result.now c.toggle.new.bytes c.args.offset
+    (subst (λ s. IsPage c.args.pool.now s) (sym c.self.view_is) c.requires.page) c.bytes_mut.ensures.bytes
+    c.toggle.ensures refl refl refl c.still_taken.ensures.least c.still_taken.ensures.same
