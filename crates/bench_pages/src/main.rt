@@ -2,6 +2,9 @@
 //! word it does nothing.
 #![tactic(auto)]
 
+mod desk;
+
+use desk::{desks, toggle_pages};
 use fields::{diff_span, xor_into};
 use std::time::{Duration, Instant};
 use std::{env, io};
@@ -11,9 +14,11 @@ const BYTES: usize = 16_777_216;
 
 const PAGE: usize = 4096;
 
-const PAGES: usize = 4096;
+pub(crate) const PAGES: usize = 4096;
 /// How often each is done.
 const ROUNDS: usize = 20;
+/// How often each page is changed.
+const CHANGES: usize = 500;
 
 /// The bytes of page k.
 fn page(bytes: &[u8], k: usize) -> &[u8] {
@@ -66,13 +71,15 @@ fn change_pages(bytes: &mut [u8], round: u8) {
     }
 }
 
+/// How many there were in each microsecond of a time.
+fn rate(count: usize, time: Duration) -> u64 {
+    let micros = time.as_secs().saturating_mul(1_000_000);
+    let micros = micros.saturating_add(u64::from(time.subsec_micros()));
+    count as u64 / micros.max(1)
+}
+
 fn print_rate(rt: &impl Print, what: &str, time: Duration) -> io::Result<()> {
-    let micros = u64::from(time.subsec_micros());
-    let micros = time
-        .as_secs()
-        .saturating_mul(1_000_000)
-        .saturating_add(micros);
-    let rate = (BYTES * ROUNDS) as u64 / micros.max(1);
+    let rate = rate(BYTES * ROUNDS, time);
     rt.println(format_args!("{what}: {rate} million bytes a second"))
 }
 
@@ -102,5 +109,14 @@ fn main(rt: HostRuntime) -> io::Result<()> {
         total = total.saturating_add(spans(&a, &b));
     }
     print_rate(&rt, "diff_span", start.elapsed(&rt)?)?;
-    println!(rt; "{total} bytes differ")
+    println!(rt; "{total} bytes differ")?;
+    let Ok(mut desks) = desks(alloc) else {
+        return println!(rt; "toggle: out of memory");
+    };
+    let start = Instant::now(&rt)?;
+    for _ in 0..CHANGES {
+        toggle_pages(&mut desks);
+    }
+    let rate = rate(PAGES * CHANGES, start.elapsed(&rt)?);
+    println!(rt; "toggle: {rate} million toggles a second")
 }
