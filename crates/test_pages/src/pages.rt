@@ -141,8 +141,7 @@ fn a_page_is_refused_at_its_first_fault(rt: HostRuntime) -> Result<(), Fail> {
     Ok(())
 }
 
-/// What a page's first slot holds after these bits were flipped, by both calls that
-/// read a slot without a fault.
+/// What a page's first slot holds, as both calls say that read a slot without a fault.
 fn held(alloc: Global, page: &Page, pool: &Pool) -> Result<Option<(i64, i64)>, Fail>
     requires { IsPage pool.now page.now }
 {
