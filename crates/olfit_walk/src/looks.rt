@@ -40,8 +40,8 @@ fn read_leaf(shared: &Words, me: &mut Hand, nodes: usize, key: u128, words: &mut
     }
 }
 
-/// Looks a key up once in an index of so many nodes, for a reader that was told of `known` changes. It returns
-/// whatever the writer does, takes no memory, and makes loads alone.
+/// Looks a key up once in an index of so many nodes, for a reader that was told of `known` changes. It
+/// returns whatever the writer does, takes no memory, and makes loads alone.
 pub fn try_get(shared: &Words, me: &mut Hand, nodes: usize, key: Key, known: u64) -> Look
     requires seat { CanLook shared.now.table_id nodes me.old }
     requires known { known ≡ length me.old.me.0.told }

@@ -1,0 +1,17 @@
+pub mod Climbs
+pub mod Cuts
+pub mod Entries
+pub mod Fills
+pub mod Founds
+pub mod Grows
+pub mod Histories
+pub mod Kept
+pub mod Links
+pub mod Needed
+pub mod Parents
+pub mod Puts
+pub mod Ready
+pub mod Rewrites
+pub mod Roots
+pub mod Splits
+pub mod Words

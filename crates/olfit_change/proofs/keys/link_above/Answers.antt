@@ -1,0 +1,100 @@
+use Rattle.std.proofs.Common.{◌≡◌, ◌∙◌, ◌≤◌, ◌<◌, ◌+◌, ◌-◌, [], ℕ, length, arith, sym, ap, subst, append-nil}
+use Rattle.olfit_nodes.specs.Nodes.{count_of}
+use Rattle.olfit_rule.specs.declared.view.View.{View}
+use Rattle.olfit_rule.specs.Tree.{node_of}
+use Rattle.olfit_change.specs.Room.{IsFullBetween}
+use Rattle.olfit_change.specs.States.{IsChangedAt, IsFreeFrom, IsSplitAt, MayPut}
+use Rattle.olfit_change.proofs.Climbs.{climbed, may_link, was, works_linked}
+use Rattle.olfit_change.proofs.Links.{free_grown, low_grown}
+use Rattle.olfit_change.proofs.Needed.{full_on, needs_all, needs_at, needs_more, needs_root}
+use Rattle.olfit_change.proofs.Ready.{few_at, same_on}
+use Rattle.olfit_change.proofs.keys.link_above.Goals as goal
+
+pub put_entry-requires-clause-may : goal.put_entry-requires-clause-may
+put_entry-requires-clause-may c =
+    let at = c.node_at-node.ensures.node in
+    subst (MayPut [] c.node_at-node.result.0 c.loop-above.link.key c.loop-above.link.node) (sym c.node_at-node.ensures.same.1)
+    (may_link c.loop-above.me.me.0 c.loop-above.above c.args.key c.node_at-node.result.0 c.loop-above.link c.loop-above.used (omega arith) c.loop-above.invariant.linking at.0 at.1)
+
+pub returns-then-count-lt-ENTRIES-clause-works : goal.returns-then-count-lt-ENTRIES-clause-works
+returns-then-count-lt-ENTRIES-clause-works c =
+    works_linked _ _ c.loop-above.used c.loop-above.me c.put_entry.new.me c.loop-above.above c.args.key c.node_at-node.result.0 c.loop-above.link c.loop-above.invariant.ready c.put_entry.ensures.ready c.loop-above.invariant.linking c.node_at-node.ensures.node.0
+    (subst (λ (v : View). IsChangedAt c.node_at-node.result.0 [] v c.put_entry.new.me.me.0) c.node_at-node.ensures.same.1 c.put_entry.ensures.changed)
+
+pub returns-then-count-lt-ENTRIES-clause-used : goal.returns-then-count-lt-ENTRIES-clause-used
+returns-then-count-lt-ENTRIES-clause-used c =
+    let at = c.node_at-node.ensures.node in
+    let old = was c.loop-above.above c.args.key c.node_at-node.result.0 c.args.me.now.me.0.seen c.loop-above.me.me.0.seen c.loop-above.invariant.upper at.0 at.1 in
+    let used = c.loop-above.invariant.used in (
+      c.loop-above.above - 1,
+      needs_at c.args.me.now.me.0.seen 1 c.top-top.result c.loop-above.above c.args.key (c.loop-above.above - 1) c.top-top.ensures.top (omega arith) (omega arith) c.loop-above.invariant.full c.node_at-node.result.0 old.at old.covers
+          (let same = ap count_of c.node_at-node.ensures.words in let was' = ap count_of old.words in omega (arith, same, was')),
+      omega (arith, used),
+    )
+
+pub split_node-link-requires-clause-free : goal.split_node-link-requires-clause-free
+split_node-link-requires-clause-free c =
+    let at = c.node_at-node.ensures.node in
+    let old = was c.loop-above.above c.args.key c.node_at-node.result.0 c.args.me.now.me.0.seen c.loop-above.me.me.0.seen c.loop-above.invariant.upper at.0 at.1 in
+    let few : count_of c.node_at-node.result.1 ≤ 16 = few_at _ _ c.loop-above.me c.loop-above.above c.node_at-node.result.0 c.node_at-node.result.1 c.loop-above.invariant.ready at.0 c.node_at-node.ensures.words in
+    let count : count_of (node_of c.args.me.now.me.0.seen.image c.node_at-node.result.0) ≡ 16 = (let same = ap count_of c.node_at-node.ensures.words in let was' = ap count_of old.words in omega (arith, few, same, was')) in
+    let full = full_on c.args.me.now.me.0.base c.args.me.now.me.0.seen 1 c.loop-above.above c.args.key c.node_at-node.result.0 c.requires.ready.good c.loop-above.invariant.full old.at old.covers count in
+    (subst (λ (v : View). IsFreeFrom c.loop-above.used v.seen) (sym c.node_at-node.ensures.same.1) c.loop-above.invariant.linking.free, (let most' = needs_more c.args.me.now.me.0.base c.args.me.now.me.0.seen 1 c.top-top.result (c.loop-above.above + 1) c.args.key c.requires.room.0 c.requires.ready.good c.top-top.ensures.top (omega arith) full c.requires.room.1 in let have = c.requires.room.2 in let used' = c.loop-above.invariant.used in omega (arith, most', have, used')))
+
+pub split_node-link-requires-clause-full : goal.split_node-link-requires-clause-full
+split_node-link-requires-clause-full c =
+    let few : count_of c.node_at-node.result.1 ≤ 16 = few_at _ _ c.loop-above.me c.loop-above.above c.node_at-node.result.0 c.node_at-node.result.1 c.loop-above.invariant.ready c.node_at-node.ensures.node.0 c.node_at-node.ensures.words in omega (arith, few)
+
+pub split_node-link-requires-clause-may : goal.split_node-link-requires-clause-may
+split_node-link-requires-clause-may c =
+    let at = c.node_at-node.ensures.node in
+    subst (MayPut [] c.node_at-node.result.0 c.loop-above.link.key c.loop-above.link.node) (sym c.node_at-node.ensures.same.1)
+    (may_link c.loop-above.me.me.0 c.loop-above.above c.args.key c.node_at-node.result.0 c.loop-above.link c.loop-above.used (omega arith) c.loop-above.invariant.linking at.0 at.1)
+
+pub loop-above-preserved : goal.loop-above-preserved
+loop-above-preserved c =
+    let at = c.node_at-node.ensures.node in
+    let old = was c.loop-above.above c.args.key c.node_at-node.result.0 c.args.me.now.me.0.seen c.loop-above.me.me.0.seen c.loop-above.invariant.upper at.0 at.1 in
+    let few : count_of c.node_at-node.result.1 ≤ 16 = few_at _ _ c.loop-above.me c.loop-above.above c.node_at-node.result.0 c.node_at-node.result.1 c.loop-above.invariant.ready at.0 c.node_at-node.ensures.words in
+    let count : count_of (node_of c.args.me.now.me.0.seen.image c.node_at-node.result.0) ≡ 16 = (let same = ap count_of c.node_at-node.ensures.words in let was' = ap count_of old.words in omega (arith, few, same, was')) in
+    let full = full_on c.args.me.now.me.0.base c.args.me.now.me.0.seen 1 c.loop-above.above c.args.key c.node_at-node.result.0 c.requires.ready.good c.loop-above.invariant.full old.at old.covers count in
+    let s = subst (λ (v : View). IsSplitAt c.node_at-node.result.0 c.split_node-link.result [] v c.split_node-link.new.me.me.0) c.node_at-node.ensures.same.1 c.split_node-link.ensures.split in
+    let within : c.loop-above.used < length c.loop-above.me.me.0.seen.image = (let here = c.loop-above.invariant.ready.count in let some : c.loop-above.used < c.args.nodes = (let most' = needs_more c.args.me.now.me.0.base c.args.me.now.me.0.seen 1 c.top-top.result (c.loop-above.above + 1) c.args.key c.requires.room.0 c.requires.ready.good c.top-top.ensures.top (omega arith) full c.requires.room.1 in let have = c.requires.room.2 in let used' = c.loop-above.invariant.used in omega (arith, most', have, used')) in omega (arith, here, some)) in
+    let size : length c.split_node-link.new.me.me.0.seen.image ≡ length c.loop-above.me.me.0.seen.image = c.split_node-link.ensures.ready.count ∙ sym c.loop-above.invariant.ready.count in
+    let k = climbed c.args.me.now.me.0.seen c.loop-above.me.me.0 c.split_node-link.new.me.me.0 c.loop-above.above c.args.key c.top-top.result c.node_at-node.result.0 c.loop-above.link c.split_node-link.result c.loop-above.used c.loop-above.invariant.ready.good c.loop-above.invariant.linking at.0 at.1 s c.split_node-link.ensures.link within size c.loop-above.invariant.upper c.loop-above.invariant.root in
+    let used = c.loop-above.invariant.used in record {
+      ready = c.split_node-link.ensures.ready;
+      same = same_on c.args.me.now c.node_at-node.new.me c.split_node-link.new.me (same_on c.args.me.now c.loop-above.me c.node_at-node.new.me c.loop-above.invariant.same c.node_at-node.ensures.same.0) c.split_node-link.ensures.same;
+      base = s.base ∙ c.loop-above.invariant.base;
+      log = s.log ∙ (append-nil c.loop-above.me.me.0.seen.log ∙ c.loop-above.invariant.log);
+      linking = k.linking;
+      upper = k.upper;
+      root = k.root;
+      full = full;
+      used = omega (arith, used);
+    }
+
+pub grow-requires-clause-free : goal.grow-requires-clause-free
+grow-requires-clause-free c =
+    let end : c.loop-above.above ≡ c.top-top.result + 1 = omega arith in
+    let all = needs_all c.args.me.now.me.0.seen 1 c.top-top.result c.args.key c.requires.room.0 c.top-top.ensures.top (subst (λ (u : ℕ). IsFullBetween c.args.me.now.me.0.seen 1 u c.args.key) end c.loop-above.invariant.full) c.requires.room.1 in
+    let have = c.requires.room.2 in let used = c.loop-above.invariant.used in
+    (c.loop-above.invariant.linking.free, omega (arith, end, all, have, used))
+
+pub returns-clause-works : goal.returns-clause-works
+returns-clause-works c =
+    let end : c.loop-above.above ≡ c.top-top.result + 1 = omega arith in
+    let all = needs_all c.args.me.now.me.0.seen 1 c.top-top.result c.args.key c.requires.room.0 c.top-top.ensures.top (subst (λ (u : ℕ). IsFullBetween c.args.me.now.me.0.seen 1 u c.args.key) end c.loop-above.invariant.full) c.requires.room.1 in
+    let have = c.requires.room.2 in let used = c.loop-above.invariant.used in
+    let within : c.loop-above.used < length c.loop-above.me.me.0.seen.image = (let here = c.loop-above.invariant.ready.count in omega (arith, here, end, all, have, used)) in
+    let size : length c.grow.new.me.me.0.seen.image ≡ length c.loop-above.me.me.0.seen.image = c.grow.ensures.ready.count ∙ sym c.loop-above.invariant.ready.count in record {
+      ready = c.grow.ensures.ready;
+      free = free_grown c.loop-above.me.me.0 c.grow.new.me.me.0 c.top-top.result c.loop-above.used c.grow.ensures.grown c.loop-above.invariant.ready.good c.loop-above.invariant.root c.loop-above.invariant.linking.free within size;
+      versions = low_grown c.loop-above.me.me.0 c.grow.new.me.me.0 c.top-top.result c.loop-above.used c.grow.ensures.grown c.loop-above.invariant.ready.good c.loop-above.invariant.root c.loop-above.invariant.linking.free within size c.loop-above.invariant.linking.versions c.loop-above.invariant.linking.some.1;
+    }
+
+pub returns-clause-used : goal.returns-clause-used
+returns-clause-used c =
+    let end : c.loop-above.above ≡ c.top-top.result + 1 = omega arith in
+    let used = c.loop-above.invariant.used in
+    (c.top-top.result + 1, needs_root c.args.me.now.me.0.seen 1 c.top-top.result c.loop-above.above c.args.key (c.top-top.result + 1) c.top-top.ensures.top (omega arith) end c.loop-above.invariant.full, omega (arith, end, used))

@@ -1,0 +1,88 @@
+//! A key is put in or taken out.
+ghost use Rattle.std.specs.Prelude.{◌≡◌, ℕ, ◌+◌, ◌^◌, ◌<◌, ◌≤◌, ◌++◌, [], ◌∷◌, None, length};
+ghost use Rattle.olfit_rule.specs.declared.view.Change.TheVariants.{Add};
+ghost use Rattle.olfit_rule.specs.Maps.{map_of, map_after};
+ghost use Rattle.olfit_rule.specs.Rule.{IsSame};
+ghost use Rattle.olfit_change.specs.Room.{Needs, NeedsFrom};
+ghost use Rattle.olfit_change.specs.States.{IsReady, IsLinking, TakesFromLog, Works};
+
+use crate::descend::{ENTRIES, node_at, top};
+use crate::nodes::{grow, put_entry, split_node, take_entry};
+use olfit_nodes::{Link, count, find};
+use olfit_rule::{Hand, Words};
+use std::marker::Brand;
+
+/// Takes a key out, and returns its value. None: it isn't there, and nothing is changed.
+pub fn take(shared: &Words, me: &mut Hand, nodes: usize, key: u128) -> Option<u64>
+    requires works { (used : ℕ) × Works shared.now.table_id nodes used me.old }
+    requires few { length me.old.me.0.seen.log < 2 ^ 60 }
+    ensures works { (used : ℕ) → Works shared.now.table_id nodes used me.old
+        → Works shared.now.table_id nodes used me.new }
+    ensures same { IsSame me.old me.new × (me.new.me.0.base ≡ me.old.me.0.base) }
+    ensures value { result ≡ map_after (map_of me.old.me.0.base) me.old.me.0.seen.log key }
+    ensures log { TakesFromLog key result me.old.me.0.seen.log me.new.me.0.seen.log }
+    ensures none { result ≡ None → me.new.me.0 ≡ me.old.me.0 }
+{
+    let (leaf, words) = node_at(shared, me, nodes, 0, key);
+    match find(&words, key) {
+        Some(place) => Some(take_entry::<Brand>(shared, me, nodes, leaf, words, place)),
+        None => None,
+    }
+}
+
+/// Puts an absent key in, where there are nodes enough. Nodes from `used` on are free.
+pub fn put(shared: &Words, me: &mut Hand, nodes: usize, used: &mut usize, key: u128, value: u64)
+    requires works { Works shared.now.table_id nodes used.old me.old }
+    requires few { length me.old.me.0.seen.log < 2 ^ 60 }
+    requires absent { map_after (map_of me.old.me.0.base) me.old.me.0.seen.log key ≡ None }
+    requires room { (needed : ℕ) × Needs me.old.me.0.seen key needed × (used.old + needed ≤ nodes) }
+    ensures works { Works shared.now.table_id nodes used.new me.new }
+    ensures same { IsSame me.old me.new × (me.new.me.0.base ≡ me.old.me.0.base) }
+    ensures log { me.new.me.0.seen.log ≡ me.old.me.0.seen.log ++ Add key value ∷ [] }
+    ensures used { (needed : ℕ) × Needs me.old.me.0.seen key needed × (used.new ≡ used.old + needed) }
+{
+    let (leaf, words) = node_at(shared, me, nodes, 0, key);
+    if count(&words) < ENTRIES {
+        put_entry::<Brand>(shared, me, nodes, leaf, words, key, value);
+        return;
+    }
+    let link = split_node::<Brand>(shared, me, nodes, *used, leaf, words, key, value);
+    *used += 1;
+    link_above(shared, me, nodes, used, key, link);
+}
+
+/// Puts entries for new nodes above the leaf that was split: in the level above, and where a node of it is
+/// split for that, in the level above it, up to a new root.
+fn link_above(shared: &Words, me: &mut Hand, nodes: usize, used: &mut usize, key: u128, first: Link)
+    requires ready { IsReady shared.now.table_id nodes me.old }
+    requires linking { IsLinking 1 key first used.old me.old.me.0.seen }
+    requires few { length me.old.me.0.seen.log ≤ 2 ^ 60 }
+    requires room { (needed : ℕ) × NeedsFrom me.old.me.0.seen 1 key needed × (used.old + needed ≤ nodes) }
+    ensures works { Works shared.now.table_id nodes used.new me.new }
+    ensures same { IsSame me.old me.new × (me.new.me.0.base ≡ me.old.me.0.base) }
+    ensures log { me.new.me.0.seen.log ≡ me.old.me.0.seen.log }
+    ensures used { (needed : ℕ) × NeedsFrom me.old.me.0.seen 1 key needed × (used.new ≡ used.old + needed) }
+{
+    let top = top(shared, me, nodes);
+    let mut link = first;
+    for above in 1..top + 1 {
+        let (node, words) = node_at(shared, me, nodes, above, key);
+        if count(&words) < ENTRIES {
+            put_entry::<Brand>(shared, me, nodes, node, words, link.key, link.node as u64);
+            return;
+        }
+        link = split_node::<Brand>(
+            shared,
+            me,
+            nodes,
+            *used,
+            node,
+            words,
+            link.key,
+            link.node as u64,
+        );
+        *used += 1;
+    }
+    grow(shared, me, nodes, *used, top, link);
+    *used += 1;
+}
