@@ -10,6 +10,7 @@ use Rattle.olfit_rule.specs.declared.view.View.{View}
 use Rattle.olfit_rule.specs.Tree.{node_of, low, Good, Lasts, IsAt, IsInner}
 use Rattle.olfit_rule.specs.Rule.{rewritten, after_root, after_rewrite}
 use Rattle.olfit_change.specs.States.{IsFreeFrom, IsGrown}
+use Rattle.olfit_change.proofs.Weights.{weights_light}
 use Rattle.olfit_change.proofs.Rewrites.{node_there, low_here, right_here, entries_here, level_here, version_here, size}
 use Rattle.olfit_change.proofs.Fills.{good_filled, lasts_filled, levels_filled, at_before}
 use Rattle.olfit_change.proofs.Roots.{good_rooted, lasts_rooted, levels_rooted}
@@ -101,5 +102,6 @@ module _ (v : View) (top fresh : ℕ) (link : Link) (ws : List ℕ) (good : Good
     root = refl;
     right = right_here v.seen fresh ws [] within ∙ rights;
     others = λ i not. node_there v.seen fresh ws [] within i not;
+    lighter = let a = weights_light v.seen fresh ws [] within (let n = length-entries ws in let two' : length (entries_of ws) ≡ 2 = ap length entries in omega (arith, n, two')) in omega (arith, a);
     version = version_here v.seen fresh ws [] within long;
   }

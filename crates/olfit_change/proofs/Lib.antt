@@ -14,4 +14,5 @@ pub mod Ready
 pub mod Rewrites
 pub mod Roots
 pub mod Splits
+pub mod Weights
 pub mod Words

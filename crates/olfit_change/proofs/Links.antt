@@ -126,7 +126,7 @@ module _ (v w : View) (level node : ℕ) (link : Link) (changes : List Change) (
 
 module _ (v w : View) (top fresh : ℕ) (g : IsGrown top fresh v w) (good : Good v.base v.seen) (root : IsAt v.seen top v.seen.root) (free : IsFreeFrom fresh v.seen) (within : fresh < length v.seen.image)
     (size : length w.seen.image ≡ length v.seen.image) where
-  grown_root : slice_index w.seen.levels w.seen.root ≡ top + 2
+  pub grown_root : slice_index w.seen.levels w.seen.root ≡ top + 2
   grown_root = (λ j. slice_index (g.levels j) (g.root j)) ∙ get_or-set_same v.seen.levels fresh (top + 2) 0 (subst (λ (z : ℕ). fresh < z) (sym good.sized) within)
 
   grown_back : (l j : ℕ) → j ≢ fresh → IsAt w.seen l j → IsAt v.seen l j

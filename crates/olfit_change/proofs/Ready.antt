@@ -8,7 +8,8 @@ use Rattle.olfit_rule.specs.declared.view.View.{View}
 use Rattle.olfit_rule.specs.Tree.{node_of, version, Good, IsAt}
 use Rattle.olfit_rule.specs.Rule.{IsAtRest, IsSame, after_rewrite, after_root, rewritten}
 use Rattle.olfit_change.specs.States.{IsReady, IsChangedAt, Stays}
-use Rattle.olfit_change.proofs.Rewrites.{node_here, size, node_there, right_here, version_here}
+use Rattle.olfit_change.proofs.Weights.{weights_set}
+use Rattle.olfit_change.proofs.Rewrites.{count_here, level_here, node_here, size, node_there, right_here, version_here}
 
 pub ready_still : (table : TableId) (nodes : ℕ) (p q : Seat ℕ View) → IsReady table nodes p → Stays p q → IsReady table nodes q
 ready_still table nodes p q r s = record {
@@ -57,6 +58,7 @@ changed_by v w node ws changes within long view levels right = subst (IsChangedA
   right = right_here v.seen node ws changes within ∙ right;
   others = λ i not. node_there v.seen node ws changes within i not;
   version = version_here v.seen node ws changes within long;
+  cost = weights_set v.seen node ws changes within;
 }
 
 pub same_on : (p q r : Seat ℕ View) → IsSame p q → IsSame q r → IsSame p r
@@ -93,3 +95,9 @@ long_from v w node ws changes within view rest =
     let is = ap (λ (x : View). length (node_of x.seen.image node)) view in
     let here = ap (λ (x : List ℕ). length x) (node_here v.seen node ws changes within) in
     let same = length-set ws 0 (version v.seen.image node + 2) in omega (arith, wide, is, here, same)
+
+-- the count and the level of a node after its words were replaced
+pub count_by : (v w : View) (node : ℕ) (ws : List ℕ) (changes : List Change) → node < length v.seen.image → w ≡ after_rewrite node ws changes v → (count_of (node_of w.seen.image node) ≡ count_of ws) × (level_of (node_of w.seen.image node) ≡ level_of ws)
+count_by v w node ws changes within view =
+    let is = ap (λ (x : View). node_of x.seen.image node) view in
+    (ap count_of is ∙ count_here v.seen node ws changes within, ap level_of is ∙ level_here v.seen node ws changes within)

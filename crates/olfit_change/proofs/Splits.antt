@@ -17,7 +17,9 @@ use Rattle.olfit_rule.specs.declared.view.View.{View}
 use Rattle.olfit_rule.specs.Maps.{map_of, map_after, IsLegal}
 use Rattle.olfit_rule.specs.Tree.{node_of, low, Good, Lasts, IsAt, IsInner, Covers}
 use Rattle.olfit_rule.specs.Rule.{rewritten, after_rewrite}
+use Rattle.olfit_change.specs.Room.{weight}
 use Rattle.olfit_change.specs.States.{MayPut, IsSplitAt}
+use Rattle.olfit_change.proofs.Weights.{weights_light}
 use Rattle.olfit_change.proofs.Entries.{place, place_most, rises_take, rises_drop, map_lower, map_upper, below_cut, above_cut, first_take}
 use Rattle.olfit_change.proofs.Kept.{covers_by, inner_on, says_same}
 use Rattle.olfit_change.proofs.Puts.{notes, more_rises, more_inside, more_says, more_inner}
@@ -204,6 +206,12 @@ module _ (v : View) (changes : List Change) (node key value : ℕ) (link : Link)
   apart : link.node ≢ node
   apart e = free level (subst (IsAt v.seen level) (sym e) at)
 
+  few_new : count_of new ≤ 9
+  few_new = let a = length-entries new in let b = ap length halves.new_entries in let c = length-drop 8 all in omega (arith, a, b, c, long)
+
+  few_cut : count_of cut ≤ 9
+  few_cut = let a = length-entries cut in let b = ap length halves.cut_entries in let c = length-take-le 8 all (omega (arith, long)) in omega (arith, a, b, c)
+
   pub split_done : 0 < length new → 0 < length cut → IsSplitAt node link changes v (after_rewrite node cut changes (after_rewrite link.node new [] v))
   split_done some some' = record {
     base = refl;
@@ -216,6 +224,10 @@ module _ (v : View) (changes : List Change) (node key value : ℕ) (link : Link)
     low = (low_here u node cut changes at1.0 ∙ halves.cut_low, ap low_of (node_there u node cut changes at1.0 link.node apart) ∙ low1);
     right = (right_here u node cut changes at1.0 ∙ halves.cut_right, ap right_of (node_there u node cut changes at1.0 link.node apart) ∙ (right1 ∙ ap right_of same));
     others = λ i a b. node_there u node cut changes at1.0 i a ∙ node_there v.seen link.node new [] within i b;
+    lighter =
+        let a = weights_light v.seen link.node new [] within few_new in
+        let b = weights_light u node cut changes at1.0 few_cut in
+        let e = ap weight same in omega (arith, a, b, e);
     versions = (
       version_here u node cut changes at1.0 some' ∙ ap (λ (x : List ℕ). slice_index x 0 + 2) same,
       ap (λ (x : List ℕ). slice_index x 0) (node_there u node cut changes at1.0 link.node apart) ∙ version_here v.seen link.node new [] within some,

@@ -1,6 +1,7 @@
 -- How many new nodes an entry takes.
-use Rattle.std.specs.Prelude.{◌≡◌, ℕ, ◌+◌, ◌<◌, ◌≤◌, ◌⊎◌}
-use Rattle.olfit_nodes.specs.Nodes.{count_of}
+use Rattle.std.specs.Prelude.{◌≡◌, ℕ, ◌+◌, ◌-◌, ◌*◌, ◌==◌, if◌then◌else◌, ◌<◌, ◌≤◌, ◌⊎◌, List, slice_index}
+use Rattle.std.specs.Prelude.{sum_by}
+use Rattle.olfit_nodes.specs.Nodes.{count_of, level_of}
 use Rattle.olfit_rule.specs.declared.view.Moment.{Moment}
 use Rattle.olfit_rule.specs.Tree.{node_of, IsAt, Covers}
 
@@ -25,3 +26,23 @@ pub record NeedsFrom (t : Moment) (level key needed : ℕ) : Type 0 where
 -- how many new nodes an entry for the key takes
 abbrev pub Needs : Moment → ℕ → ℕ → Type 0
 Needs t key needed = NeedsFrom t 0 key needed
+
+-- how far a node is on its way to a split: its entries above nine, twice above the leaves
+abbrev pub weight : List ℕ → ℕ
+weight words = (count_of words - 9) * (if level_of words == 0 then 1 else 2)
+
+-- how far all nodes are on their way to splits
+abbrev pub weights : Moment → ℕ
+weights t = sum_by weight t.image
+
+-- Keys pay for nodes: six for each node in use, up to a number that doesn't
+-- grow. Where the root is a leaf, four are left for a root above it.
+pub record IsPaid (used keys : ℕ) (t : Moment) : Type 0 where
+  pub nodes : 6 * used + weights t ≤ keys + 25
+  pub leaf : slice_index t.levels t.root ≡ 1 → 6 * used + weights t + 4 ≤ keys + 25
+
+-- The nodes are paid for while an entry is still to be put above a
+-- leaf that was split, and so is that entry or a new root.
+pub record IsOwed (used keys : ℕ) (t : Moment) : Type 0 where
+  pub entry : 6 * used + weights t + 2 ≤ keys + 25
+  pub leaf : slice_index t.levels t.root ≡ 1 → 6 * used + weights t + 6 ≤ keys + 25

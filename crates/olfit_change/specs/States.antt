@@ -1,5 +1,6 @@
 -- What the writer keeps of the nodes between its calls, and how a call changes them.
-use Rattle.std.specs.Prelude.{◌≡◌, ◌≢◌, ℕ, ◌*◌, ◌+◌, ◌^◌, ◌<◌, ◌≤◌, Option, None, Some, List, [], ◌∷◌, ◌++◌, length}
+use Rattle.std.specs.Prelude.{◌≡◌, ◌≢◌, ℕ, ◌*◌, ◌+◌, ◌^◌, ◌<◌, ◌≤◌, Option, None, Some, List, [], ◌∷◌, ◌++◌}
+use Rattle.std.specs.Prelude.{length}
 use Rattle.std.specs.Prelude.{slice_index, slice_set}
 use Rattle.atomic_table.specs.Seated.{TableId}
 use Rattle.atomic_table.specs.declared.shared.Seat.{Seat}
@@ -12,6 +13,7 @@ use Rattle.olfit_rule.specs.declared.view.View.{View}
 use Rattle.olfit_rule.specs.Maps.{map_of}
 use Rattle.olfit_rule.specs.Tree.{node_of, low, version, Good, IsAt, Covers}
 use Rattle.olfit_rule.specs.Rule.{IsAtRest, IsSame}
+use Rattle.olfit_change.specs.Room.{weight, weights}
 
 -- the writer is at rest, its nodes stand for its map, and the table has so many of them
 pub record IsReady (table : TableId) (nodes : ℕ) (seat : Seat ℕ View) : Type 0 where
@@ -57,6 +59,8 @@ pub record IsChangedAt (node : ℕ) (changes : List Change) (v w : View) : Type 
   pub right : right_of (node_of w.seen.image node) ≡ right_of (node_of v.seen.image node)
   pub others : (i : ℕ) → i ≢ node → node_of w.seen.image i ≡ node_of v.seen.image i
   pub version : version w.seen.image node ≡ version v.seen.image node + 2
+  pub cost : weights w.seen + weight (node_of v.seen.image node)
+      ≡ weights v.seen + weight (node_of w.seen.image node)
 
 -- these changes were made, and the node was split: the link leads to a new node of
 -- the same level, which has the keys from the link's on that belonged into the node
@@ -73,6 +77,7 @@ pub record IsSplitAt (node : ℕ) (link : Link) (changes : List Change) (v w : V
   pub others : (i : ℕ) → i ≢ node → i ≢ link.node → node_of w.seen.image i ≡ node_of v.seen.image i
   pub versions : (version w.seen.image node ≡ version v.seen.image node + 2)
       × (version w.seen.image link.node ≡ version v.seen.image link.node + 2)
+  pub lighter : weights w.seen + weight (node_of v.seen.image node) ≤ weights v.seen
 
 -- a new root was made, one level above the old one
 pub record IsGrown (top fresh : ℕ) (v w : View) : Type 0 where
@@ -83,6 +88,7 @@ pub record IsGrown (top fresh : ℕ) (v w : View) : Type 0 where
   pub right : right_of (node_of w.seen.image fresh) ≡ None
   pub others : (i : ℕ) → i ≢ fresh → node_of w.seen.image i ≡ node_of v.seen.image i
   pub version : version w.seen.image fresh ≡ version v.seen.image fresh + 2
+  pub lighter : weights w.seen ≤ weights v.seen
 
 -- what the writer keeps between its calls, where so many nodes are in use
 pub record Works (table : TableId) (nodes used : ℕ) (seat : Seat ℕ View) : Type 0 where

@@ -1,10 +1,10 @@
 //! What the writer finds in its nodes.
-ghost use Rattle.std.specs.Prelude.{◌≡◌, ℕ, ◌≤◌};
+ghost use Rattle.std.specs.Prelude.{◌≡◌, ℕ, ◌+◌, ◌*◌, ◌≤◌};
 ghost use Rattle.olfit_rule.specs.Maps.{map_of, map_after};
 ghost use Rattle.olfit_rule.specs.Tree.{node_of, IsAt, Covers};
 ghost use Rattle.olfit_rule.specs.Rule.{IsSame};
 ghost use Rattle.olfit_change.specs.States.{IsReady, IsFreeFrom, Stays};
-ghost use Rattle.olfit_change.specs.Room.{Needs};
+ghost use Rattle.olfit_change.specs.Room.{Needs, weights};
 
 use olfit_nodes::{count, level};
 use olfit_rule::{Hand, Words, own_node, own_root};
@@ -64,6 +64,7 @@ pub fn nodes_needed(shared: &Words, me: &mut Hand, nodes: usize, key: u128) -> u
     requires free { (used : ℕ) × IsFreeFrom used me.old.me.0.seen }
     ensures same { Stays me.old me.new }
     ensures needed { Needs me.old.me.0.seen key result }
+    ensures paid { 6 * result ≤ weights me.old.me.0.seen + 5 }
 {
     let top = top(shared, me, nodes) as usize;
     for above in 0..top + 1 {

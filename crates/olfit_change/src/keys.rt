@@ -3,7 +3,7 @@ ghost use Rattle.std.specs.Prelude.{◌≡◌, ℕ, ◌+◌, ◌^◌, ◌<◌, �
 ghost use Rattle.olfit_rule.specs.declared.view.Change.TheVariants.{Add};
 ghost use Rattle.olfit_rule.specs.Maps.{map_of, map_after};
 ghost use Rattle.olfit_rule.specs.Rule.{IsSame};
-ghost use Rattle.olfit_change.specs.Room.{Needs, NeedsFrom};
+ghost use Rattle.olfit_change.specs.Room.{Needs, NeedsFrom, IsOwed, IsPaid};
 ghost use Rattle.olfit_change.specs.States.{IsReady, IsLinking, TakesFromLog, Works};
 
 use crate::descend::{ENTRIES, node_at, top};
@@ -22,6 +22,7 @@ pub fn take(shared: &Words, me: &mut Hand, nodes: usize, key: u128) -> Option<u6
     ensures value { result ≡ map_after (map_of me.old.me.0.base) me.old.me.0.seen.log key }
     ensures log { TakesFromLog key result me.old.me.0.seen.log me.new.me.0.seen.log }
     ensures none { result ≡ None → me.new.me.0 ≡ me.old.me.0 }
+    ensures paid { (used keys : ℕ) → IsPaid used keys me.old.me.0.seen → IsPaid used keys me.new.me.0.seen }
 {
     let (leaf, words) = node_at(shared, me, nodes, 0, key);
     match find(&words, key) {
@@ -40,6 +41,8 @@ pub fn put(shared: &Words, me: &mut Hand, nodes: usize, used: &mut usize, key: u
     ensures same { IsSame me.old me.new × (me.new.me.0.base ≡ me.old.me.0.base) }
     ensures log { me.new.me.0.seen.log ≡ me.old.me.0.seen.log ++ Add key value ∷ [] }
     ensures used { (needed : ℕ) × Needs me.old.me.0.seen key needed × (used.new ≡ used.old + needed) }
+    ensures paid { (keys : ℕ) → IsPaid used.old keys me.old.me.0.seen
+        → IsPaid used.new (keys + 1) me.new.me.0.seen }
 {
     let (leaf, words) = node_at(shared, me, nodes, 0, key);
     if count(&words) < ENTRIES {
@@ -62,6 +65,8 @@ fn link_above(shared: &Words, me: &mut Hand, nodes: usize, used: &mut usize, key
     ensures same { IsSame me.old me.new × (me.new.me.0.base ≡ me.old.me.0.base) }
     ensures log { me.new.me.0.seen.log ≡ me.old.me.0.seen.log }
     ensures used { (needed : ℕ) × NeedsFrom me.old.me.0.seen 1 key needed × (used.new ≡ used.old + needed) }
+    ensures paid { (keys : ℕ) → IsOwed used.old keys me.old.me.0.seen
+        → IsPaid used.new keys me.new.me.0.seen }
 {
     let top = top(shared, me, nodes);
     let mut link = first;

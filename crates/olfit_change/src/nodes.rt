@@ -1,6 +1,7 @@
 //! One change of one node, and the split of a full one.
-ghost use Rattle.std.specs.Prelude.{◌≡◌, ◌+◌, ◌^◌, ◌<◌, [], ◌∷◌};
-ghost use Rattle.olfit_nodes.specs.Nodes.{count_of, entry_at};
+ghost use Rattle.std.specs.Prelude.{◌≡◌, ◌+◌, ◌^◌, ◌<◌, ◌≤◌, [], ◌∷◌};
+ghost use Rattle.olfit_nodes.specs.Nodes.{count_of, entry_at, level_of};
+ghost use Rattle.olfit_change.specs.Room.{weights};
 ghost use Rattle.olfit_rule.specs.declared.view.Change.TheVariants.{Drop};
 ghost use Rattle.olfit_rule.specs.Tree.{node_of, low, version, IsAt};
 ghost use Rattle.olfit_rule.specs.Rule.{IsSame};
@@ -28,6 +29,8 @@ pub(crate) fn put_entry<C: Noted>(
     ensures ready { IsReady shared.now.table_id nodes me.new }
     ensures same { IsSame me.old me.new }
     ensures changed { IsChangedAt node C.changes me.old.me.0 me.new.me.0 }
+    ensures count { count_of (node_of me.new.me.0.seen.image node) ≡ count_of words + 1 }
+    ensures level { level_of (node_of me.new.me.0.seen.image node) ≡ level_of words }
 {
     let place = place_of(&words, key);
     insert_at(&mut words, place, key, value);
@@ -105,6 +108,7 @@ pub(crate) fn take_entry<C: Noted>(
     ensures ready { IsReady shared.now.table_id nodes me.new }
     ensures same { IsSame me.old me.new }
     ensures changed { IsChangedAt leaf C.changes me.old.me.0 me.new.me.0 }
+    ensures lighter { weights me.new.me.0.seen ≤ weights me.old.me.0.seen }
     ensures value { result ≡ (entry_at words place).1 }
 {
     let value = remove_at(&mut words, place);

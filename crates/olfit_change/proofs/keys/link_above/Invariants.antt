@@ -1,7 +1,8 @@
-use Rattle.std.proofs.Common.{◌≡◌, ◌+◌}
+use Rattle.std.proofs.Common.{ℕ, ◌≡◌, ◌+◌}
 use Rattle.olfit_rule.specs.Rule.{IsSame}
 use Rattle.olfit_rule.specs.Tree.{IsAt}
-use Rattle.olfit_change.specs.Room.{IsFullBetween}
+use Rattle.olfit_change.specs.Room.{IsFullBetween, IsOwed}
+use Rattle.olfit_change.proofs.Weights.{Pays}
 use Rattle.olfit_change.specs.States.{IsReady, IsLinking, SameFrom}
 use Rattle.olfit_change.proofs.keys.link_above.Given as goal
 
@@ -15,5 +16,6 @@ invariant-loop-above l = record {
   upper : SameFrom l.above l.fn.me.me.0.seen l.me.me.0.seen;
   root : IsAt l.me.me.0.seen l.top l.me.me.0.seen.root;
   full : IsFullBetween l.fn.me.me.0.seen 1 l.above l.key;
+  paid : (keys : ℕ) → IsOwed l.fn.used keys l.fn.me.me.0.seen → Pays l.above l.top l.used keys l.me.me.0.seen;
   used : l.used + 1 ≡ l.fn.used + l.above;
 }

@@ -5,6 +5,8 @@ use Rattle.olfit_rule.specs.declared.view.Change.TheVariants.{Drop}
 use Rattle.olfit_rule.specs.declared.view.View.{View}
 use Rattle.olfit_rule.specs.Maps.{map_of}
 use Rattle.olfit_walk.proofs.Finds.{found_value, absent_value}
+use Rattle.olfit_change.specs.Room.{IsPaid, weights}
+use Rattle.olfit_change.proofs.Weights.{paid_taken}
 use Rattle.olfit_change.specs.States.{IsChangedAt}
 use Rattle.olfit_change.proofs.Climbs.{works_changed}
 use Rattle.olfit_change.proofs.Founds.{found_key}
@@ -55,3 +57,12 @@ returns-in-None-clause-value c =
     let at = c.node_at-leaf.ensures.node in
     let law = (c.requires.works.1.ready.good.nodes 0 c.node_at-leaf.result.0 at.0).leaf refl c.args.key at.1 in
     sym (absent_value (entries_of c.node_at-leaf.result.1) c.args.key (0, 0) (sym c.find.ensures ∙ c.in-None.is)) ∙ (ap (λ (ws : List ℕ). map_of (entries_of ws) c.args.key) c.node_at-leaf.ensures.words ∙ law)
+
+pub returns-in-Some-clause-paid : goal.returns-in-Some-clause-paid
+returns-in-Some-clause-paid c used keys p =
+    let less = c.take_entry.ensures.lighter in let same = ap (λ (v : View). weights v.seen) c.node_at-leaf.ensures.same.1 in
+    paid_taken c.args.me.now.me.0 c.take_entry.new.me.me.0 c.node_at-leaf.result.0 used keys (Drop (entry_at c.node_at-leaf.result.1 c.in-Some.place).0 ∷ [])
+    (subst (λ (v : View). IsChangedAt c.node_at-leaf.result.0 (Drop (entry_at c.node_at-leaf.result.1 c.in-Some.place).0 ∷ []) v c.take_entry.new.me.me.0) c.node_at-leaf.ensures.same.1 c.take_entry.ensures.changed) (omega (arith, less, same)) p
+
+pub returns-in-None-clause-paid : goal.returns-in-None-clause-paid
+returns-in-None-clause-paid c used keys p = subst (λ (v : View). IsPaid used keys v.seen) (sym c.node_at-leaf.ensures.same.1) p

@@ -1,9 +1,13 @@
+use Rattle.std.proofs.Common.{List, ◌∙◌, ap}
+use Rattle.std.proofs.lemmas.List.Edits.{length-insert}
+use Rattle.std.proofs.Common.{length}
+use Rattle.olfit_nodes.specs.Nodes.{Entry}
 use Rattle.std.proofs.Common.{arith}
 use Rattle.olfit_nodes.specs.Nodes.{entries_of}
 use Rattle.olfit_nodes.proofs.Places.{length-entries}
 use Rattle.olfit_change.proofs.Entries.{place_most}
 use Rattle.olfit_change.proofs.Puts.{puts}
-use Rattle.olfit_change.proofs.Ready.{ready_rewritten, changed_by}
+use Rattle.olfit_change.proofs.Ready.{ready_rewritten, changed_by, count_by}
 use Rattle.olfit_change.proofs.nodes.put_entry.Goals as goal
 
 pub insert_at-requires-clause-inside : goal.insert_at-requires-clause-inside
@@ -27,3 +31,14 @@ pub returns-clause-changed : goal.returns-clause-changed
 returns-clause-changed g c =
     let r = puts c.args.me.now.me.0 g.C.Noted.changes c.args.node c.args.key c.args.value c.args.words c.insert_at.new.words c.place_of-place.result c.requires.ready.good c.requires.may c.requires.words c.place_of-place.ensures c.insert_at.ensures.frame c.insert_at.ensures.entries c.requires.room in
     changed_by c.args.me.now.me.0 c.rewrite.new.me.me.0 c.args.node c.insert_at.new.words g.C.Noted.changes c.requires.may.at.1.0 (let long = c.insert_at.array_long in omega (arith, long)) c.rewrite.ensures.view r.levels r.right
+
+pub returns-clause-count : goal.returns-clause-count
+returns-clause-count g c =
+    let xs : List Entry = entries_of c.args.words in
+    let a = length-entries c.insert_at.new.words in let b = length-entries c.args.words in
+    let d = length-insert xs c.place_of-place.result (c.args.key, c.args.value) (let most = place_most c.args.key xs in let is = c.place_of-place.ensures in omega (arith, most, is)) in
+    let e = ap length c.insert_at.ensures.entries in
+    let n = (count_by c.args.me.now.me.0 c.rewrite.new.me.me.0 c.args.node c.insert_at.new.words g.C.Noted.changes c.requires.may.at.1.0 c.rewrite.ensures.view).0 in omega (arith, a, b, d, e, n)
+
+pub returns-clause-level : goal.returns-clause-level
+returns-clause-level g c = (count_by c.args.me.now.me.0 c.rewrite.new.me.me.0 c.args.node c.insert_at.new.words g.C.Noted.changes c.requires.may.at.1.0 c.rewrite.ensures.view).1 ∙ c.insert_at.ensures.frame.level
