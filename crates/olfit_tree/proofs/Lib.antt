@@ -1,0 +1,4 @@
+pub mod Chains
+pub mod Seen
+pub mod Works
+pub mod Zeros
