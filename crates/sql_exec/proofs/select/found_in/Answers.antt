@@ -1,0 +1,144 @@
+use Rattle.std.proofs.Common.{rules, arith, ◌≡◌, ◌∙◌, ◌+◌, ◌∷◌, ◌++◌, length, refl, sym, ap, subst}
+use Rattle.std.proofs.lemmas.Bool.{eqb-true, eqb-false}
+use Rattle.row_types.specs.Schema.{keys_at}
+use Rattle.key_space.specs.Plays.{Rows, Part}
+use Rattle.plain_model.specs.Calls.{Did}
+use Rattle.plain_model.specs.CallPlays.{tables_of}
+use Rattle.plain_model.specs.Meaning.{table_at}
+use Rattle.sql_exec.specs.Acts.{rows_in}
+use Rattle.sql_exec.specs.Bodies.{here}
+use Rattle.sql_exec.specs.Plays.{OnTable}
+use Rattle.sql_exec.specs.Selects.{shown_of}
+use Rattle.sql_exec.proofs.OneTable.{stays}
+use Rattle.sql_exec.proofs.PieceLaws.{less_more, none_from}
+use Rattle.sql_exec.proofs.Reading.{enough_found, on_ordered, read_can, read_nothing, read_on, read_works, stopped_works}
+use Rattle.sql_exec.proofs.Showing.{enough, shown_none}
+use Rattle.sql_exec.proofs.Working.{works_since}
+use Rattle.sql_exec.proofs.select.found_in.Goals as goal
+
+pub loop-found-init : goal.loop-found-init
+loop-found-init g c =
+    let calls = g.R.RowCalls.calls c.args.rows.now in
+    let defs = g.R.RowCalls.defs c.args.rows.now in
+    let p = c.args.p.now in
+    let n = p.table in
+    let lo = c.args.range.lo.number in
+    let marks = keys_at defs n in
+    record {
+      schema = refl;
+      works = here;
+      can = c.requires.can;
+      low = omega arith;
+      some = c.requires.range;
+      high = refl;
+      plain = λ first plays. stays n (λ r s. (c.new-found.result.items ≡ shown_of p c.args.wanted (rows_in marks lo lo r)) × (s ≡ r)) (tables_of first calls) (tables_of first calls) refl
+          (c.new-found.ensures.items ∙ sym (ap (shown_of p c.args.wanted) (none_from marks lo (table_at (tables_of first calls) n).rows) ∙ shown_none p c.args.wanted), refl);
+      sent = record { put = refl; taken = refl };
+    }
+
+pub returns-in_err-piece-clause-works : goal.returns-in_err-piece-clause-works
+returns-in_err-piece-clause-works g c =
+    let calls = g.R.RowCalls.calls in
+    stopped_works c.args.p.now.table c.loop-found.rest _ (calls c.args.rows.now) (calls c.loop-found.rows) (calls c.chunk.new.self) c.loop-found.invariant.works c.in_err-piece.ensures.told
+
+pub returns-in_err-collect-clause-works : goal.returns-in_err-collect-clause-works
+returns-in_err-collect-clause-works g c =
+    let calls = g.R.RowCalls.calls in
+    read_works c.args.p.now.table c.loop-found.rest.lo.number c.in_ok-piece.piece.upto.number c.in_ok-piece.piece.rows (calls c.args.rows.now) (calls c.loop-found.rows) (calls c.chunk.new.self) c.in_ok-piece.ensures.told c.loop-found.invariant.works
+
+pub returns-then-eq-clause-works : goal.returns-then-eq-clause-works
+returns-then-eq-clause-works g c =
+    let calls = g.R.RowCalls.calls in
+    read_works c.args.p.now.table c.loop-found.rest.lo.number c.in_ok-piece.piece.upto.number c.in_ok-piece.piece.rows (calls c.args.rows.now) (calls c.loop-found.rows) (calls c.chunk.new.self) c.in_ok-piece.ensures.told c.loop-found.invariant.works
+
+pub returns-then-eq-clause-plain : goal.returns-then-eq-clause-plain
+returns-then-eq-clause-plain g c =
+    let calls = g.R.RowCalls.calls in
+    let defs = g.R.RowCalls.defs c.args.rows.now in
+    let p = c.args.p.now in
+    let n = p.table in
+    let wanted = c.args.wanted in
+    let marks = keys_at defs n in
+    let range = c.args.range in
+    let rest = c.loop-found.rest in
+    let start = calls c.args.rows.now in
+    let old = calls c.loop-found.rows in
+    let new = calls c.chunk.new.self in
+    let inv = c.loop-found.invariant in
+    let upto = c.in_ok-piece.piece.upto.number in
+    let list : Rows = c.in_ok-piece.piece.rows in
+    let told : new ≡ Did (Part n rest.lo.number upto list) ∷ old = c.in_ok-piece.ensures.told in
+    let earlier = works_since start old inv.works in
+    let all = works_since start new (read_works n rest.lo.number upto list start old new told inv.works) in
+    let found : Rows = c.collect.new.found.items in
+    let more : OnTable defs n (λ r s. (found ≡ shown_of p wanted (rows_in marks range.lo.number (upto + 1) r)) × (s ≡ r)) start new =
+    read_on n rest.lo.number upto list start old new told defs range.lo.number inv.low c.in_ok-piece.ensures.low earlier (λ r. c.loop-found.found.items ≡ shown_of p wanted (rows_in marks range.lo.number rest.lo.number r)) (λ r. found ≡ shown_of p wanted (rows_in marks range.lo.number (upto + 1) r))
+    (λ r order split e. c.in_ok-collect.ensures (rows_in marks range.lo.number rest.lo.number r) e ∙ ap (shown_of p wanted) (ap (λ (l : Rows). rows_in marks range.lo.number rest.lo.number r ++ l) c.as_slice.ensures ∙ sym split)) inv.plain in
+    let last : upto ≡ range.hi.number = eqb-true upto rest.hi.number (sym c.eq.ensures ∙ c.if-eq.true) ∙ inv.high in
+    subst (λ hi. OnTable defs n (λ r s. (found ≡ shown_of p wanted (rows_in marks range.lo.number (hi + 1) r)) × (s ≡ r)) start new) last more
+
+pub returns-then-is_enough-clause-works : goal.returns-then-is_enough-clause-works
+returns-then-is_enough-clause-works g c =
+    let calls = g.R.RowCalls.calls in
+    read_works c.args.p.now.table c.loop-found.rest.lo.number c.in_ok-piece.piece.upto.number c.in_ok-piece.piece.rows (calls c.args.rows.now) (calls c.loop-found.rows) (calls c.chunk.new.self) c.in_ok-piece.ensures.told c.loop-found.invariant.works
+
+pub returns-then-is_enough-clause-plain : goal.returns-then-is_enough-clause-plain
+returns-then-is_enough-clause-plain g c =
+    let calls = g.R.RowCalls.calls in
+    let defs = g.R.RowCalls.defs c.args.rows.now in
+    let p = c.args.p.now in
+    let n = p.table in
+    let wanted = c.args.wanted in
+    let marks = keys_at defs n in
+    let range = c.args.range in
+    let rest = c.loop-found.rest in
+    let start = calls c.args.rows.now in
+    let old = calls c.loop-found.rows in
+    let new = calls c.chunk.new.self in
+    let inv = c.loop-found.invariant in
+    let upto = c.in_ok-piece.piece.upto.number in
+    let list : Rows = c.in_ok-piece.piece.rows in
+    let told : new ≡ Did (Part n rest.lo.number upto list) ∷ old = c.in_ok-piece.ensures.told in
+    let earlier = works_since start old inv.works in
+    let all = works_since start new (read_works n rest.lo.number upto list start old new told inv.works) in
+    let found : Rows = c.collect.new.found.items in
+    let more : OnTable defs n (λ r s. (found ≡ shown_of p wanted (rows_in marks range.lo.number (upto + 1) r)) × (s ≡ r)) start new =
+    read_on n rest.lo.number upto list start old new told defs range.lo.number inv.low c.in_ok-piece.ensures.low earlier (λ r. c.loop-found.found.items ≡ shown_of p wanted (rows_in marks range.lo.number rest.lo.number r)) (λ r. found ≡ shown_of p wanted (rows_in marks range.lo.number (upto + 1) r))
+    (λ r order split e. c.in_ok-collect.ensures (rows_in marks range.lo.number rest.lo.number r) e ∙ ap (shown_of p wanted) (ap (λ (l : Rows). rows_in marks range.lo.number rest.lo.number r ++ l) c.as_slice.ensures ∙ sym split)) inv.plain in
+    let asked : c.is_enough.result ≡ enough wanted (length found) = search rules in
+    on_ordered defs n (λ r. found ≡ shown_of p wanted (rows_in marks range.lo.number (upto + 1) r)) (λ r. found ≡ shown_of p wanted (rows_in marks range.lo.number (range.hi.number + 1) r)) start new all
+    (λ r order e. enough_found defs n range.lo.number upto range.hi.number p wanted found r (omega (arith, inv.low, c.in_ok-piece.ensures.low)) (omega (arith, c.in_ok-piece.ensures.high, inv.high)) order e (sym asked ∙ c.if-is_enough.true)) more
+
+pub loop-found-preserved : goal.loop-found-preserved
+loop-found-preserved g c =
+    let calls = g.R.RowCalls.calls in
+    let defs = g.R.RowCalls.defs c.args.rows.now in
+    let p = c.args.p.now in
+    let n = p.table in
+    let wanted = c.args.wanted in
+    let marks = keys_at defs n in
+    let range = c.args.range in
+    let rest = c.loop-found.rest in
+    let start = calls c.args.rows.now in
+    let old = calls c.loop-found.rows in
+    let new = calls c.chunk.new.self in
+    let inv = c.loop-found.invariant in
+    let upto = c.in_ok-piece.piece.upto.number in
+    let list : Rows = c.in_ok-piece.piece.rows in
+    let told : new ≡ Did (Part n rest.lo.number upto list) ∷ old = c.in_ok-piece.ensures.told in
+    let earlier = works_since start old inv.works in
+    let all = works_since start new (read_works n rest.lo.number upto list start old new told inv.works) in
+    let found : Rows = c.collect.new.found.items in
+    let more : OnTable defs n (λ r s. (found ≡ shown_of p wanted (rows_in marks range.lo.number (upto + 1) r)) × (s ≡ r)) start new =
+    read_on n rest.lo.number upto list start old new told defs range.lo.number inv.low c.in_ok-piece.ensures.low earlier (λ r. c.loop-found.found.items ≡ shown_of p wanted (rows_in marks range.lo.number rest.lo.number r)) (λ r. found ≡ shown_of p wanted (rows_in marks range.lo.number (upto + 1) r))
+    (λ r order split e. c.in_ok-collect.ensures (rows_in marks range.lo.number rest.lo.number r) e ∙ ap (shown_of p wanted) (ap (λ (l : Rows). rows_in marks range.lo.number rest.lo.number r ++ l) c.as_slice.ensures ∙ sym split)) inv.plain in
+    record {
+      schema = c.in_ok-piece.ensures.schema ∙ inv.schema;
+      works = read_works n rest.lo.number upto list start old new told inv.works;
+      can = read_can n rest.lo.number upto list start old new told rest.lo.number rest.hi.number (upto + 1) (omega (arith, c.in_ok-piece.ensures.low)) inv.can;
+      low = omega (arith, inv.low, c.in_ok-piece.ensures.low);
+      some = less_more upto rest.hi.number c.in_ok-piece.ensures.high (eqb-false upto rest.hi.number (sym c.eq.ensures ∙ c.if-eq.false));
+      high = inv.high;
+      plain = more;
+      sent = read_nothing n rest.lo.number upto list start old new told inv.sent;
+    }

@@ -1,0 +1,132 @@
+// SELECT: the rows of a range that pass are collected, piece by piece, until there are enough.
+ghost use Rattle.std.specs.Prelude.{◌≡◌, ◌++◌, nat_le, false, IfErr, IfOk, IsTrue, OnOk, Some};
+ghost use Rattle.std.specs.Option.{option_map_or};
+ghost use Rattle.key_space.specs.Plays.{Rows};
+ghost use Rattle.key_space.specs.Ranges.{IsNotEmpty};
+ghost use Rattle.row_types.specs.Schema.{keys_at};
+ghost use Rattle.sql_check.specs.Columns.{def_at};
+ghost use Rattle.sql_check.specs.declared.plan.Plan.TheVariants.{Select};
+ghost use Rattle.plain_model.specs.Calls.{is_running};
+ghost use Rattle.plain_model.specs.Meaning.{limited};
+ghost use Rattle.sql_exec.specs.Bodies.{CanRead, PlanEnds, Works};
+ghost use Rattle.sql_exec.specs.Fits.{NamesKept};
+ghost use Rattle.sql_exec.specs.Means.{IsNoLackReply, Stops};
+ghost use Rattle.sql_exec.specs.Plays.{OnTable};
+ghost use Rattle.sql_exec.specs.Selects.{Found, shown_of};
+ghost use Rattle.sql_exec.specs.Sends.{SendsNothing};
+
+use crate::OutOfMemory;
+use crate::values::{in_columns, passes_all};
+use key_space::{Key, Range};
+use plain_model::{Reply, RowCalls, Stop};
+use row_types::{Items, Row};
+use sql_check::SelectPlan;
+use std::alloc::Global;
+
+/// Whether there are as many as are wanted.
+fn is_enough(wanted: Option<u64>, count: usize) -> bool
+    ensures { result ≡ option_map_or (λ limit. nat_le limit count) wanted false }
+{
+    match wanted {
+        Some(limit) => limit <= count as u64,
+        None => false,
+    }
+}
+
+/// Adds what is shown of the rows that pass, as long as more are wanted.
+fn collect(
+    alloc: Global,
+    p: &SelectPlan,
+    wanted: Option<u64>,
+    piece: &[Row],
+    found: &mut Vec<Row>,
+) -> Result<(), OutOfMemory>
+    ensures { (before : Rows) → found.old.items ≡ shown_of p.now wanted before
+        → OnOk result (found.new.items ≡ shown_of p.now wanted (before ++ piece.now)) }
+{
+    for row in piece {
+        if is_enough(wanted, found.as_slice().len()) {
+            return Ok(());
+        }
+        if passes_all(p.conditions.as_slice(), row) {
+            found.push(in_columns(alloc, p.columns.as_slice(), row)?)?;
+        }
+    }
+    Ok(())
+}
+
+/// What is shown of the rows of a range that pass, the lowest key first, at most so many as are wanted.
+fn found_in<R: RowCalls>(
+    alloc: Global,
+    rows: &mut R,
+    p: &SelectPlan,
+    range: Range,
+    wanted: Option<u64>,
+) -> Result<Vec<Row>, Stop>
+    requires range { IsNotEmpty range }
+    requires can { CanRead (R.calls rows.old) p.now.table range.lo.number range.hi.number }
+    ensures schema { R.defs rows.new ≡ R.defs rows.old }
+    ensures works { Works (R.calls rows.old) (R.calls rows.new) }
+    ensures runs { OnOk result (IsTrue (is_running (R.calls rows.new))) }
+    ensures end { IfErr result (Stops (R.calls rows.new)) }
+    ensures plain { IfOk result (λ found. OnTable (R.defs rows.old) p.now.table
+        (Found (keys_at (R.defs rows.old) p.now.table) range p.now wanted found.items)
+        (R.calls rows.old) (R.calls rows.new)) }
+    ensures sent { SendsNothing (R.calls rows.old) (R.calls rows.new) }
+{
+    let mut found = Vec::new(alloc);
+    let mut rest = range;
+    loop {
+        let piece = rows.chunk(p.table, rest)?;
+        collect(alloc, p, wanted, piece.rows.as_slice(), &mut found)?;
+        if piece.upto == rest.hi {
+            return Ok(found);
+        }
+        if is_enough(wanted, found.as_slice().len()) {
+            return Ok(found);
+        }
+        rest.lo = Key {
+            number: piece.upto.number + 1,
+        };
+    }
+}
+
+/// At most so many rows, from the first on.
+fn at_most(mut found: Vec<Row>, limit: Option<u64>) -> Vec<Row>
+    ensures { result.items ≡ limited limit found.items }
+{
+    let Some(limit) = limit else {
+        return found;
+    };
+    found.truncate(limit as usize);
+    found
+}
+
+/// The reply to a SELECT whose lock is held.
+pub(crate) fn select<R: RowCalls>(
+    alloc: Global,
+    rows: &mut R,
+    p: &SelectPlan,
+    range: Range,
+) -> Result<Reply, Stop>
+    requires range { IsNotEmpty range }
+    requires can { CanRead (R.calls rows.old) p.now.table range.lo.number range.hi.number }
+    requires kept { NamesKept (R.defs rows.old) p.now.table (Some range) p.now.conditions }
+    ensures schema { R.defs rows.new ≡ R.defs rows.old }
+    ensures works { Works (R.calls rows.old) (R.calls rows.new) }
+    ensures runs { OnOk result (IsTrue (is_running (R.calls rows.new))) }
+    ensures end { IfErr result (Stops (R.calls rows.new)) }
+    ensures plain { OnTable (R.defs rows.old) p.now.table
+        (PlanEnds (def_at (R.defs rows.old) p.now.table) (Select p.now) result)
+        (R.calls rows.old) (R.calls rows.new) }
+    ensures own { IfOk result IsNoLackReply }
+    ensures sent { SendsNothing (R.calls rows.old) (R.calls rows.new) }
+{
+    if !p.is_falling {
+        let found = found_in(alloc, rows, p, range, p.limit)?;
+        return Ok(Reply::Rows(Items::from_vec(found)));
+    }
+    let mut found = found_in(alloc, rows, p, range, None)?;
+    found.reverse();
+    Ok(Reply::Rows(Items::from_vec(at_most(found, p.limit))))
+}
