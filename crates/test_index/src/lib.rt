@@ -1,0 +1,5 @@
+//! Tests of the index.
+#![tactic(auto)]
+
+#[cfg(test)]
+mod trees;
