@@ -3,12 +3,12 @@ ghost use Rattle.std.specs.Prelude.{◌≡◌};
 use key_space::Key;
 use olfit_tree::{Index, Look, Reader, Writer};
 
-fn key(number: u128) -> Key {
+pub(crate) fn key(number: u128) -> Key {
     Key { number }
 }
 
 /// Adds a key, and answers whether it was added.
-fn put(index: &Index, writer: &mut Writer, number: u64, value: u64) -> bool
+pub(crate) fn put(index: &Index, writer: &mut Writer, number: u64, value: u64) -> bool
     requires { writer.old.table ≡ index.now.table }
     ensures { writer.new.table ≡ index.now.table }
 {
@@ -22,7 +22,7 @@ fn put(index: &Index, writer: &mut Writer, number: u64, value: u64) -> bool
 }
 
 /// Drops a key, and returns its value.
-fn take(index: &Index, writer: &mut Writer, number: u64) -> Option<u64>
+pub(crate) fn take(index: &Index, writer: &mut Writer, number: u64) -> Option<u64>
     requires { writer.old.table ≡ index.now.table }
     ensures { writer.new.table ≡ index.now.table }
 {
