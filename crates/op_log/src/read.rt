@@ -39,7 +39,7 @@ fn row_at(alloc: Global, schema: &Schema, table: u16, bytes: &[u8]) -> Result<Ro
     }
 }
 
-/// The change with this first byte and of this table that `rest` goes on with, and how many bytes it has.
+/// The change with this first byte and of this table that `rest` continues with, and how many bytes it has.
 fn change_at(
     alloc: Global,
     schema: &Schema,

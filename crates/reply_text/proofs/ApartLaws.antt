@@ -308,7 +308,7 @@ doubled_read (c ∷ cs) (d ∷ ds) r s stops1 stops2 e =
 
 -- ---- values and rows
 
--- neither a number nor a text goes on with this
+-- this byte continues neither a number nor a text
 abbrev EndsValue : List ℕ → Type 0
 EndsValue r = Stops in_number r × Stops is_quote r
 
