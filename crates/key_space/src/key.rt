@@ -5,7 +5,7 @@ ghost use Rattle.row_types.specs.Keys.{key_of_int, row_key};
 ghost use Rattle.row_types.specs.Schema.{columns_at, keys_at};
 ghost use Rattle.row_types.specs.Slot.{IsRowOf};
 
-use row_types::{Row, Schema};
+use row_types::{Row, Schema, int_at};
 
 /// A key: a number below 2^128. Keys are in the order of their numbers.
 #[derive(Clone, Copy, Debug, Default, PartialEq, Eq, PartialOrd, Ord)]
@@ -44,6 +44,6 @@ pub fn key_of(schema: &Schema, table: u16, row: &Row) -> Key
 {
     match schema.table(table).keys.as_slice() {
         [] => Key::default(),
-        [mark, ..] => Key::of_int(row.int_at(*mark as usize)),
+        [mark, ..] => Key::of_int(int_at(row, *mark as usize)),
     }
 }

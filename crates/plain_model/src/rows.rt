@@ -11,7 +11,7 @@ ghost use Rattle.plain_model.specs.Meaning.{deletes};
 use crate::values::{cell, changed_row, is_kept};
 use crate::{OutOfMemory, Refusal, Reply};
 use key_space::Key;
-use row_types::{Column, Items, Name, Row, TableDef, TryCopy, Value};
+use row_types::{Column, Items, Name, Row, TableDef, TryCopy, Value, int_at};
 use sql_check::{column_number, row_key};
 use sql_parse::{Change, Condition, Delete, Order, Select, Shown, Total, Totals, Update};
 use std::alloc::Global;
@@ -102,7 +102,7 @@ pub fn key_numbers(alloc: Global, marks: &[u8], row: &Row) -> Result<Items<i64>,
 {
     let mut numbers = Vec::with_capacity(alloc, marks.len())?;
     for mark in marks {
-        numbers.push(row.int_at(*mark as usize))?;
+        numbers.push(int_at(row, *mark as usize))?;
     }
     Ok(Items::from_vec(numbers))
 }
@@ -210,7 +210,7 @@ fn sum_of(columns: &[Column], name: &Name, rows: &[Row]) -> i128
     let column = column_number(columns, name) as usize;
     let mut sum = 0;
     for row in rows {
-        sum = plus(sum, row.int_at(column));
+        sum = plus(sum, int_at(row, column));
     }
     sum
 }

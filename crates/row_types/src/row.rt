@@ -23,14 +23,12 @@ impl TryCopy for Value {
 /// A row: its values in the order of the columns.
 pub type Row = Items<Value>;
 
-impl Items<Value> {
-    /// The whole number at a place, 0 where no such stands.
-    pub fn int_at(&self, place: usize) -> i64
-        ensures { result ≡ int_at self.now place }
-    {
-        match self.as_slice().get(place) {
-            Some(Value::Int(number)) => *number,
-            _ => 0,
-        }
+/// The whole number at a place of a row, 0 where no such stands.
+pub fn int_at(row: &Row, place: usize) -> i64
+    ensures { result ≡ int_at row.now place }
+{
+    match row.as_slice().get(place) {
+        Some(Value::Int(number)) => *number,
+        _ => 0,
     }
 }

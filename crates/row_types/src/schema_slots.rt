@@ -9,7 +9,7 @@ ghost use Rattle.row_types.specs.declared.definition.Column.{Column};
 
 use crate::schema::PAGE;
 use crate::slot::{is_row_of, read_slot, slot_fault, slot_len, write_slot};
-use crate::{Items, OutOfMemory, Row, Schema, SlotFault};
+use crate::{Items, OutOfMemory, Row, Schema, SlotFault, int_at};
 use std::alloc::Global;
 
 impl Schema {
@@ -96,7 +96,7 @@ impl Schema {
         let marks = self.table(table).keys.as_slice();
         let mut numbers = Vec::with_capacity(alloc, marks.len())?;
         for mark in marks {
-            numbers.push(row.int_at(*mark as usize))?;
+            numbers.push(int_at(row, *mark as usize))?;
         }
         Ok(Items::from_vec(numbers))
     }

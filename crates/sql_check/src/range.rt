@@ -5,7 +5,7 @@ ghost use Rattle.sql_check.specs.KeyRange.{low_end, high_end, key_in, keys_below
 
 use crate::columns::is_key;
 use key_space::{Key, Range};
-use row_types::{Row, TableDef, Value};
+use row_types::{Row, TableDef, Value, int_at};
 use sql_parse::{Comparison, Condition};
 
 /// The first number above the keys of whole numbers.
@@ -100,6 +100,6 @@ pub fn row_key(marks: &[u8], row: &Row) -> Key
 {
     match marks {
         [] => Key::default(),
-        [mark, ..] => Key::of_int(row.int_at(*mark as usize)),
+        [mark, ..] => Key::of_int(int_at(row, *mark as usize)),
     }
 }

@@ -19,7 +19,7 @@ use crate::OutOfMemory;
 use crate::values::passes_all;
 use key_space::{Key, Range};
 use plain_model::{Refusal, Reply, RowCalls, Stop};
-use row_types::{Items, Row, Value};
+use row_types::{Items, Row, Value, int_at};
 use sql_check::{TotalPlan, TotalsPlan};
 use std::alloc::Global;
 
@@ -29,7 +29,7 @@ fn part_of(row: &Row, total: TotalPlan) -> i128
 {
     match total {
         TotalPlan::Count => 1,
-        TotalPlan::Sum(column) => i128::from(row.int_at(column as usize)),
+        TotalPlan::Sum(column) => i128::from(int_at(row, column as usize)),
     }
 }
 

@@ -9,7 +9,7 @@ ghost use Rattle.sql_exec.specs.Selects.{in_columns};
 
 use crate::OutOfMemory;
 use plain_model::allows;
-use row_types::{Items, Row, Text, TryCopy, Value};
+use row_types::{Items, Row, Text, TryCopy, Value, int_at};
 use sql_check::{Assignment, IntStep, IntTerm, Test, TextTerm};
 use std::alloc::Global;
 
@@ -32,7 +32,7 @@ fn test_holds(row: &Row, test: &Test) -> bool
             column,
             comparison,
             value,
-        } => allows(*comparison, row.int_at(*column as usize).cmp(value)),
+        } => allows(*comparison, int_at(row, *column as usize).cmp(value)),
         Test::Text {
             column,
             comparison,
@@ -59,7 +59,7 @@ fn int_value(row: &Row, term: IntTerm) -> i64
 {
     match term {
         IntTerm::Number(number) => number,
-        IntTerm::Column(column) => row.int_at(column as usize),
+        IntTerm::Column(column) => int_at(row, column as usize),
     }
 }
 

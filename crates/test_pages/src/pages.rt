@@ -1,7 +1,7 @@
 // Pages of slots.
 ghost use Rattle.slot_pages.specs.State.{IsPage};
 
-use row_types::{Column, Items, Kind, Name, Schema, TableDef};
+use row_types::{Column, Items, Kind, Name, Schema, TableDef, int_at};
 use slot_pages::{BadPage, Page, Pool, PoolFull};
 use std::alloc::Global;
 use std::test::Fail;
@@ -155,7 +155,7 @@ fn held(alloc: Global, page: &Page, pool: &Pool) -> Result<Option<(i64, i64)>, F
     }
     let key = schema.int_in_slot(0, slot, 0);
     match schema.decode_checked(alloc, 0, slot)? {
-        Some(row) if key == Some(row.int_at(0)) => Ok(Some((row.int_at(0), row.int_at(1)))),
+        Some(row) if key == Some(int_at(&row, 0)) => Ok(Some((int_at(&row, 0), int_at(&row, 1)))),
         None if key.is_none() => Ok(None),
         _ => Err(Fail::from("another key")),
     }
