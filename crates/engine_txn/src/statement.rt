@@ -1,7 +1,6 @@
 // One statement of a block.
 ghost use Rattle.std.specs.Prelude.{◌≡◌, IfErr, IfOk, IsTrue, OnOk};
 ghost use Rattle.plain_model.specs.declared.stop.Stop.TheVariants.{OutOfMemory as NoMemory};
-ghost use Rattle.plain_model.specs.Blocks.{misplaced};
 ghost use Rattle.plain_model.specs.Calls.{is_running};
 ghost use Rattle.sql_exec.specs.Means.{HasGiver, Means, Stops};
 ghost use Rattle.engine_txn.specs.Progress.{AnswersText, ReadAs, RunsOr};
@@ -9,37 +8,12 @@ ghost use Rattle.engine_txn.specs.StatementRuns.{Works};
 
 use crate::BlockCalls;
 use crate::read::Read;
-use plain_model::{Refusal, Reply, Stop};
+use plain_model::{Refusal, Reply, Stop, misplaced};
 use row_types::PlacedText;
 use sql_check::check;
 use sql_exec::run_plan;
 use sql_parse::{ParseFault, Statement, parse};
 use std::alloc::Global;
-
-/// Why a statement isn't allowed where it stands, behind BEGIN or not.
-fn misplaced(is_inside: bool, statement: &Statement) -> Option<Refusal>
-    ensures { result ≡ misplaced is_inside statement.now }
-{
-    match statement {
-        Statement::Create(_) => Some(Refusal::OnlyFirst),
-        Statement::Begin => {
-            if is_inside {
-                return Some(Refusal::InBlock);
-            }
-            None
-        }
-        Statement::Commit | Statement::Rollback => Some(if is_inside {
-            Refusal::InBlock
-        } else {
-            Refusal::NoBlock
-        }),
-        Statement::Insert(_) => None,
-        Statement::Select(_) => None,
-        Statement::Totals(_) => None,
-        Statement::Update(_) => None,
-        Statement::Delete(_) => None,
-    }
-}
 
 /// Reads the text of a statement that stands behind BEGIN or not.
 pub(crate) fn read(alloc: Global, is_inside: bool, text: &PlacedText) -> Result<Read, Stop>

@@ -22,7 +22,7 @@ pub use laws::{
     kept_rows_lie_in_their_range, means_tables, one_meaning, plan_means_its_statement,
     refused_changes_nothing, rolled_back_changes_nothing, select_changes_nothing, serial_composes,
 };
-pub use plain::run_plain;
+pub use plain::{misplaced, run_plain};
 pub use reply::{Refusal, Reply};
 pub use rows::key_numbers;
 pub use stop::{Resource, Stop};

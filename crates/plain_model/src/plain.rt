@@ -61,8 +61,12 @@ fn means(
     }
 }
 
-/// Why a statement isn't allowed where it stands, behind BEGIN or outside.
-fn misplaced(is_inside: bool, statement: &Statement) -> Option<Refusal>
+/// Why a statement isn't allowed where it stands, in a block behind BEGIN or outside of one. `None`: it is.
+///
+/// CREATE TABLE is refused in both places with [`Refusal::OnlyFirst`]. Behind BEGIN a BEGIN, COMMIT or
+/// ROLLBACK is refused with [`Refusal::InBlock`]; outside BEGIN is allowed, and a COMMIT or ROLLBACK is
+/// refused with [`Refusal::NoBlock`]. All other statements are allowed in both places.
+pub fn misplaced(is_inside: bool, statement: &Statement) -> Option<Refusal>
     ensures { result ≡ misplaced is_inside statement.now }
 {
     match statement {
