@@ -20,7 +20,7 @@ pub enum Reply {
 /// Why a statement is refused: a variant for each text that is printed, with its numbers.
 #[derive(Debug, Drop)]
 pub enum Refusal {
-    /// The text is no statement; `at` is the first place of the script from which on none goes on so.
+    /// The text is no statement; `at` is the first place of the script from which on none continues.
     Syntax { at: u64 },
     /// BEGIN or CHECKPOINT inside a block.
     InBlock,

@@ -11,7 +11,7 @@ use Rattle.row_types.specs.declared.schema_text.ReadError.{ReadError}
 use Rattle.row_types.specs.declared.schema_text.ReadError.TheVariants as errors
 use Rattle.row_types.specs.Schema.{refusal}
 
--- what was read goes on to be read, or nothing was read
+-- reading continues with what was read, or nothing was read
 infixl 10 ◌>>=◌
 abbrev pub ◌>>=◌ : {A B : Type 0} → Option A → (A → Option B) → Option B
 None >>= f = None

@@ -21,7 +21,7 @@ Fails read = (at : ℕ) × (read ≡ Err at)
 abbrev pub Opens : {X : Type 0} → Phrase X → List Lexeme → Type 0
 Opens {X} N front = (more : List Lexeme) × (value : X) × N (front ++ more) value
 
--- the first of them doesn't go on with the phrase
+-- the first of them doesn't continue the phrase
 abbrev pub Ends : (Lexeme → Bool) → List Item → Type 0
 Ends goes [] = Unit {0}
 Ends goes (t ∷ ts) = goes t.lexeme ≡ false
@@ -50,7 +50,7 @@ pub record Early {X : Type 0} (N : Phrase X) (end : ℕ) (items : List Item) (at
   pub opens : Opens N (lexemes items)
   pub place : at ≡ end
 
--- the tokens begin the phrase up to one with which none goes on
+-- the tokens begin the phrase up to one with which none continues
 pub record Stuck {X : Type 0} (N : Phrase X) (p : Left → Read X) (end : ℕ) (items : List Item) (at : ℕ) : Type 0 where
   pub front : List Item
   pub token : Item
@@ -76,7 +76,7 @@ pub record TooGreat {X : Type 0} (N : Phrase X) (p : Left → Read X) (end : ℕ
 abbrev pub Faulty : {X : Type 0} → Phrase X → (Left → Read X) → ℕ → List Item → ℕ → Type 0
 Faulty N p end items at = Early N end items at ⊎ (Stuck N p end items at ⊎ TooGreat N p end items at)
 
--- the reader reads the phrase exactly, where what follows doesn't go on with it
+-- the reader reads the phrase exactly, where what follows doesn't continue it
 pub record Exact {X : Type 0} (N : Phrase X) (p : Left → Read X) (goes : Lexeme → Bool) : Type 0 where
   pub complete : (end : ℕ) (front rest : List Item) (value : X) → N (lexemes front) value → Ends goes rest → p (left end (front ++ rest)) ≡ Ok (value, left end rest)
   pub sound : (end : ℕ) (items : List Item) (value : X) (after : Left) → p (left end items) ≡ Ok (value, after) → Reads N p end items value after

@@ -173,11 +173,11 @@ pub ends_narrow : (g h : Lexeme → Bool) → ((l : Lexeme) → h l ≡ false �
 ends_narrow g h narrow [] ends = tt
 ends_narrow g h narrow (t ∷ ts) ends = narrow t.lexeme ends
 
--- what is apart doesn't go on with what stands before it, where what follows doesn't
+-- what is apart doesn't continue what stands before it, where what follows doesn't
 pub follows_apart : {Y : Type 0} (g h : Lexeme → Bool) (M : Phrase Y) → Apart g M → ((l : Lexeme) → h l ≡ false → g l ≡ false) → (end : ℕ) (back rest : List Item) (y : Y) → M (lexemes back) y → Ends h rest → Ends g (back ++ rest)
 follows_apart g h M apart narrow end back rest y m ends = ends_front g back rest (apart back y m) (ends_narrow g h narrow rest ends)
 
--- what begins with a token that doesn't go on with what stands before it
+-- what begins with a token that doesn't continue what stands before it
 pub follows_first : {S X Z : Type 0} (test : Lexeme → Option S) (join : S → X → Z) (N : Phrase X) (g h : Lexeme → Bool) → ((l : Lexeme) (s : S) → test l ≡ Some s → g l ≡ false) → (end : ℕ) (back rest : List Item) (z : Z) → Then join (One test) N (lexemes back) z → Ends h rest → Ends g (back ++ rest)
 follows_first test join N g h apart end back rest z t ends =
     let s = starts_one test join N back z t in
@@ -190,7 +190,7 @@ follows_token test g h apart end (c ∷ cs) rest s o ends =
     let same : c.lexeme ≡ o.token = cc in
     apart c.lexeme s (ap test same ∙ o.passes)
 
--- nothing goes on with a phrase that ends by itself
+-- nothing continues a phrase that ends by itself
 pub follows_never : {Y : Type 0} (M : Phrase Y) (h : Lexeme → Bool) (end : ℕ) (back rest : List Item) (y : Y) → M (lexemes back) y → Ends h rest → Ends never (back ++ rest)
 follows_never M h end back rest y m ends = Ends-never (back ++ rest)
 

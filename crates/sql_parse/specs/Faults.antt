@@ -25,7 +25,7 @@ module _ {X : Type 0} (N : Phrase X) where
   abbrev pub BeginsPhrase : List Lexeme → Type 0
   BeginsPhrase tokens = (more : List Lexeme) × (value : X) × N (tokens ++ more) value
 
-  -- The first token with which none goes on. A name over 32 bytes is one wherever
+  -- The first token with which none continues. A name over 32 bytes is one wherever
   -- it stands, and so are a number out of range and a length outside 1 to 4,093.
   pub record StopsPhrase (front : List Item) (token : Item) : Type 0 where
     pub begins : BeginsPhrase (lexemes front)

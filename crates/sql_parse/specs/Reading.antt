@@ -67,7 +67,7 @@ rest_of left = record { end = left.end; items = tail left.items }
 abbrev pub Read : Type 0 → Type 0
 Read X = Result (X × Left) ℕ
 
--- what was read goes on to be read, or the fault stands
+-- reading continues with what was read, or the fault stands
 infixl 10 ◌>>=◌
 abbrev pub ◌>>=◌ : {X Y : Type 0} → Read X → (X × Left → Read Y) → Read Y
 (Ok x) >>= f = f x

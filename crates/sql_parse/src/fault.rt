@@ -7,7 +7,7 @@ use thiserror::Error;
 /// Why a text isn't read as a statement.
 #[derive(Clone, Copy, Debug, PartialEq, Eq, Error)]
 pub enum ParseFault {
-    /// The first place of the script from which on no statement goes on so.
+    /// The first place of the script from which on no statement continues.
     #[error("no statement at {at}")]
     Syntax { at: u64 },
     #[error("out of memory")]

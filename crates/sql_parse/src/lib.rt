@@ -1,5 +1,5 @@
 //! The statements of SQL: every text is read as its one statement,
-//! or refused at the first place at which none goes on so.
+//! or refused at the first place from which on none continues.
 #![tactic(auto)]
 
 mod changes;

@@ -65,7 +65,7 @@ fn statement_of(alloc: Global, tokens: &[Token], end: u64) -> Result<Statement, 
 /// The statement that `text` is, which begins at the place `base` of the script.
 ///
 /// `Syntax` comes exactly where the text is no statement, with the first place at which that shows: the first
-/// token with which no statement goes on, or the end of the text, or the first byte of what isn't a token. A
+/// token with which no statement continues, or the end of the text, or the first byte of what isn't a token. A
 /// number that is too great for its sign counts from the sign on. `OutOfMemory` may come at any time.
 pub fn parse(alloc: Global, text: &str, base: u64) -> Result<Statement, ParseFault>
     requires { base + length text.now < 2 ^ 63 }
