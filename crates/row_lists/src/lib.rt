@@ -1,0 +1,8 @@
+//! The rows of a table in memory, in the order of their keys, each change of which can be taken back without
+//! memory.
+#![tactic(auto)]
+
+mod row_list;
+
+pub use causes::OutOfMemory;
+pub use row_list::{Before, RowList};
