@@ -10,56 +10,114 @@ const KV: &str = "CREATE TABLE kv (id INT PRIMARY KEY, n INT)";
 
 const INSERT: &str = "INSERT INTO kv VALUES (5, 50), (6, 60)";
 
-const DUPLICATE: &str = "INSERT INTO kv VALUES (5, 50), (2, 0)";
-
-const UPDATE: &str = "UPDATE kv SET n = n + 1 WHERE id >= 2";
-
-const DELETE: &str = "DELETE FROM kv WHERE id >= 2";
-
-const SELECT: &str = "SELECT id FROM kv";
-
-const TOTALS: &str = "SELECT COUNT(*) FROM kv";
-
-const TWO: &str =
-    "BEGIN; INSERT INTO kv VALUES (5, 50); INSERT INTO kv VALUES (6, 60); SELECT id FROM kv WHERE id = 6; COMMIT";
-
-const BACK: &str = "BEGIN; INSERT INTO kv VALUES (5, 50); ROLLBACK";
-
-const CUT_OFF: &str = "BEGIN; DELETE FROM kv WHERE id = 1";
-
-/// The rows at the start.
-const ALL: &str = "0: 1, 10 / 0: 2, 20 / 0: 3, 30 / ";
-
-const WITH_5: &str = "0: 1, 10 / 0: 2, 20 / 0: 3, 30 / 0: 5, 50 / ";
-
-const WITH_6: &str = "0: 1, 10 / 0: 2, 20 / 0: 3, 30 / 0: 5, 50 / 0: 6, 60 / ";
-
-const FAULT: Stop = Stop::Fault {
-    file: FileName::AreaA,
-};
-
-const SPENT: Stop = Stop::Spent { limit: 7 };
+const TWO: &str = "BEGIN; INSERT INTO kv VALUES (5, 50); INSERT INTO kv VALUES (6, 60); \
+    SELECT id FROM kv WHERE id = 6; COMMIT";
 
 const DIE: Stop = Stop::Die { holder: 3 };
-
-const MEMORY: Stop = Stop::OutOfMemory;
 
 const LOCKS: Stop = Stop::Refused(Resource::Locks {
     held: 1024,
     limit: 1024,
 });
 
-const PAGES: Stop = Stop::Refused(Resource::Pages { used: 1, limit: 1 });
+/// A stop by its name, and what a try that it ends comes to.
+fn stop_named(name: &str) -> Option<(Stop, &'static str)> {
+    let file = FileName::AreaA;
+    let log = Resource::LogFull { bytes: 9, limit: 8 };
+    let pages = Resource::Pages { used: 1, limit: 1 };
+    let nodes = Resource::Nodes { used: 2, limit: 2 };
+    let txn = Resource::Txn { used: 3, limit: 4 };
+    Some(match name {
+        "fault" => (Stop::Fault { file }, "stopped"),
+        "spent" => (Stop::Spent { limit: 7 }, "Spent { limit: 7 }"),
+        "die" => (DIE, "died 3 2"),
+        "memory" => (Stop::OutOfMemory, "out of memory"),
+        "locks" => (LOCKS, "Resource(Locks { held: 1024, limit: 1024 })"),
+        "log" => (
+            Stop::Refused(log),
+            "Resource(LogFull { bytes: 9, limit: 8 })",
+        ),
+        "pages" => (
+            Stop::Refused(pages),
+            "Resource(Pages { used: 1, limit: 1 })",
+        ),
+        "nodes" => (
+            Stop::Refused(nodes),
+            "Resource(Nodes { used: 2, limit: 2 })",
+        ),
+        "txn" => (Stop::Refused(txn), "Resource(Txn { used: 3, limit: 4 })"),
+        _ => return None,
+    })
+}
 
-const NODES: Stop = Stop::Refused(Resource::Nodes { used: 2, limit: 2 });
+/// A kind of call by its word.
+fn kind_named(word: &str) -> Option<Kind> {
+    Some(match word {
+        "begin" => Kind::Begin,
+        "lock" => Kind::Lock,
+        "mark" => Kind::Mark,
+        "get" => Kind::Get,
+        "chunk" => Kind::Chunk,
+        "put" => Kind::Put,
+        "del" => Kind::Del,
+        "undo_to" => Kind::UndoTo,
+        "commit" => Kind::Commit,
+        "undo" => Kind::Undo,
+        _ => return None,
+    })
+}
 
-const TXN: Stop = Stop::Refused(Resource::Txn { used: 3, limit: 4 });
+/// Rows by their name, as the text of a keeper. `all` are the three at the start.
+fn rows_named(name: &str) -> Option<&'static str> {
+    Some(match name {
+        "all" => "0: 1, 10 / 0: 2, 20 / 0: 3, 30 / ",
+        "all, 5" => "0: 1, 10 / 0: 2, 20 / 0: 3, 30 / 0: 5, 50 / ",
+        "all, 6" => "0: 1, 10 / 0: 2, 20 / 0: 3, 30 / 0: 6, 60 / ",
+        "all, 5, 6" => "0: 1, 10 / 0: 2, 20 / 0: 3, 30 / 0: 5, 50 / 0: 6, 60 / ",
+        "1, 2 changed, 3" => "0: 1, 10 / 0: 2, 21 / 0: 3, 30 / ",
+        "1, 2 changed, 3 changed" => "0: 1, 10 / 0: 2, 21 / 0: 3, 31 / ",
+        "1, 3" => "0: 1, 10 / 0: 3, 30 / ",
+        "1" => "0: 1, 10 / ",
+        "2, 3" => "0: 2, 20 / 0: 3, 30 / ",
+        _ => return None,
+    })
+}
 
-const LOG: Stop = Stop::Refused(Resource::LogFull { bytes: 9, limit: 8 });
+/// The stop of a call, as the word of its kind, how many of the kind come before it, and the stop's name; and
+/// what a try that it ends comes to.
+fn switch_of(call: &str) -> Option<(Switch, &'static str)> {
+    let (word, rest) = call.split_once(" ")?;
+    let (left, name) = rest.split_once(" ")?;
+    let kind = kind_named(word)?;
+    let left = left.parse().ok()?;
+    let (stop, end) = stop_named(name)?;
+    Some((Switch { kind, left, stop }, end))
+}
 
-/// A stop of a call that comes after so many of its kind, what the try comes to, the rows after it, and the
-/// calls.
-type Case = (Kind, u64, Stop, &'static str, &'static str, &'static str);
+/// A case's stop, and what has to come of it: the replies, the rows and the calls.
+///
+/// The text of a case has these parts, and `; ` between them: the call that is stopped and its stop; the
+/// replies, where there are others, among which `_` is what the stop comes to; the rows; the calls.
+fn case_of(alloc: Global, text: &str) -> Result<Option<(Switch, String)>, Fail> {
+    let Some((call, rest)) = text.split_once("; ") else {
+        return Ok(None);
+    };
+    let Some((switch, end)) = switch_of(call) else {
+        return Ok(None);
+    };
+    let Some((rest, calls)) = rest.rsplit_once("; ") else {
+        return Ok(None);
+    };
+    let (replies, name) = rest.split_once("; ").unwrap_or(("_", rest));
+    let Some(rows) = rows_named(name) else {
+        return Ok(None);
+    };
+    let wanted = match replies.split_once("_") {
+        Some((before, after)) => format!(in alloc; "{before}{end}{after}; {rows}; {calls}")?,
+        None => format!(in alloc; "{replies}; {rows}; {calls}")?,
+    };
+    Ok(Some((switch, wanted)))
+}
 
 /// Three rows, which are read one by one.
 fn three_rows(alloc: Global) -> Result<Keeper, Fail> {
@@ -73,27 +131,25 @@ fn three_rows(alloc: Global) -> Result<Keeper, Fail> {
 }
 
 /// What is wrong with a case of a block, as text.
-fn fault_of(alloc: Global, texts: &str, case: &Case) -> Result<Option<String>, Fail> {
-    let (kind, left, stop, wanted, rows, calls) = *case;
+fn fault_of(alloc: Global, texts: &str, case: &str) -> Result<Option<String>, Fail> {
+    let Some((switch, wanted)) = case_of(alloc, case)? else {
+        return Ok(Some(format!(in alloc; "no case: {case}")?));
+    };
     let mut keeper = three_rows(alloc)?;
-    keeper.switch(Some(Switch { kind, left, stop }));
+    keeper.switch(Some(switch));
     let found = tried(alloc, &mut keeper, texts, None)?;
     let kept = kept_text(alloc, &keeper)?;
     let made = calls_text(alloc, &keeper)?;
-    let is_stopped = wanted == "stopped" && kind != Kind::Begin;
-    if found.as_str() == wanted
-        && kept.as_str() == rows
-        && made.as_str() == calls
-        && keeper.is_running() == is_stopped
-    {
+    let all = format!(in alloc; "{found}; {kept}; {made}")?;
+    let is_stopped = found.as_str() == "stopped" && switch.kind != Kind::Begin;
+    if all.as_str() == wanted.as_str() && keeper.is_running() == is_stopped {
         return Ok(None);
     }
-    let fault = format!(in alloc; "{texts} {kind:?} {left} {stop:?}: {found}; {kept}; {made}")?;
-    Ok(Some(fault))
+    Ok(Some(format!(in alloc; "{case}: {all}")?))
 }
 
 /// The first case that isn't as it has to be.
-fn first_wrong(alloc: Global, texts: &str, cases: &[Case]) -> Result<Option<String>, Fail> {
+fn first_wrong(alloc: Global, texts: &str, cases: &[&str]) -> Result<Option<String>, Fail> {
     for case in cases {
         if let Some(fault) = fault_of(alloc, texts, case)? {
             return Ok(Some(fault));
@@ -104,230 +160,41 @@ fn first_wrong(alloc: Global, texts: &str, cases: &[Case]) -> Result<Option<Stri
 
 #[test]
 fn an_insert_is_stopped(rt: HostRuntime) -> Result<(), Fail> {
-    let cases: [Case; 34] = [
-        (
-            Kind::Begin,
-            0,
-            LOG,
-            "Resource(LogFull { bytes: 9, limit: 8 })",
-            ALL,
-            "begin",
-        ),
-        (Kind::Begin, 0, SPENT, "Spent { limit: 7 }", ALL, "begin"),
-        (Kind::Begin, 0, FAULT, "stopped", ALL, "begin"),
-        (Kind::Begin, 0, MEMORY, "out of memory", ALL, "begin"),
-        (
-            Kind::Lock,
-            0,
-            LOCKS,
-            "Resource(Locks { held: 1024, limit: 1024 })",
-            ALL,
-            "begin lock commit",
-        ),
-        (Kind::Lock, 0, DIE, "died 3 2", ALL, "begin lock undo"),
-        (
-            Kind::Lock,
-            0,
-            SPENT,
-            "Spent { limit: 7 }",
-            ALL,
-            "begin lock",
-        ),
-        (Kind::Lock, 0, FAULT, "stopped", ALL, "begin lock"),
-        (
-            Kind::Lock,
-            0,
-            MEMORY,
-            "out of memory",
-            ALL,
-            "begin lock undo",
-        ),
-        (
-            Kind::Mark,
-            0,
-            SPENT,
-            "Spent { limit: 7 }",
-            ALL,
-            "begin lock mark",
-        ),
-        (Kind::Mark, 0, FAULT, "stopped", ALL, "begin lock mark"),
-        (
-            Kind::Mark,
-            0,
-            MEMORY,
-            "out of memory",
-            ALL,
-            "begin lock mark undo",
-        ),
-        (
-            Kind::Get,
-            0,
-            SPENT,
-            "Spent { limit: 7 }",
-            ALL,
-            "begin lock mark get",
-        ),
-        (Kind::Get, 0, FAULT, "stopped", ALL, "begin lock mark get"),
-        (
-            Kind::Get,
-            0,
-            MEMORY,
-            "out of memory",
-            ALL,
-            "begin lock mark get undo",
-        ),
-        (
-            Kind::Get,
-            1,
-            SPENT,
-            "Spent { limit: 7 }",
-            ALL,
-            "begin lock mark get put get",
-        ),
-        (
-            Kind::Get,
-            1,
-            FAULT,
-            "stopped",
-            WITH_5,
-            "begin lock mark get put get",
-        ),
-        (
-            Kind::Get,
-            1,
-            MEMORY,
-            "out of memory",
-            ALL,
-            "begin lock mark get put get undo",
-        ),
-        (
-            Kind::Put,
-            0,
-            PAGES,
-            "Resource(Pages { used: 1, limit: 1 })",
-            ALL,
-            "begin lock mark get put undo_to commit",
-        ),
-        (
-            Kind::Put,
-            0,
-            NODES,
-            "Resource(Nodes { used: 2, limit: 2 })",
-            ALL,
-            "begin lock mark get put undo_to commit",
-        ),
-        (
-            Kind::Put,
-            0,
-            TXN,
-            "Resource(Txn { used: 3, limit: 4 })",
-            ALL,
-            "begin lock mark get put undo_to commit",
-        ),
-        (
-            Kind::Put,
-            0,
-            SPENT,
-            "Spent { limit: 7 }",
-            ALL,
-            "begin lock mark get put",
-        ),
-        (
-            Kind::Put,
-            0,
-            FAULT,
-            "stopped",
-            ALL,
-            "begin lock mark get put",
-        ),
-        (
-            Kind::Put,
-            0,
-            MEMORY,
-            "out of memory",
-            ALL,
-            "begin lock mark get put undo",
-        ),
-        (
-            Kind::Put,
-            1,
-            PAGES,
-            "Resource(Pages { used: 1, limit: 1 })",
-            ALL,
-            "begin lock mark get put get put undo_to commit",
-        ),
-        (
-            Kind::Put,
-            1,
-            NODES,
-            "Resource(Nodes { used: 2, limit: 2 })",
-            ALL,
-            "begin lock mark get put get put undo_to commit",
-        ),
-        (
-            Kind::Put,
-            1,
-            TXN,
-            "Resource(Txn { used: 3, limit: 4 })",
-            ALL,
-            "begin lock mark get put get put undo_to commit",
-        ),
-        (
-            Kind::Put,
-            1,
-            SPENT,
-            "Spent { limit: 7 }",
-            ALL,
-            "begin lock mark get put get put",
-        ),
-        (
-            Kind::Put,
-            1,
-            FAULT,
-            "stopped",
-            WITH_5,
-            "begin lock mark get put get put",
-        ),
-        (
-            Kind::Put,
-            1,
-            MEMORY,
-            "out of memory",
-            ALL,
-            "begin lock mark get put get put undo",
-        ),
-        (
-            Kind::Commit,
-            0,
-            SPENT,
-            "Spent { limit: 7 }",
-            ALL,
-            "begin lock mark get put get put commit",
-        ),
-        (
-            Kind::Commit,
-            0,
-            FAULT,
-            "stopped",
-            WITH_6,
-            "begin lock mark get put get put commit",
-        ),
-        (
-            Kind::Commit,
-            0,
-            MEMORY,
-            "out of memory",
-            ALL,
-            "begin lock mark get put get put commit undo",
-        ),
-        (
-            Kind::Del,
-            0,
-            FAULT,
-            "ok 2",
-            WITH_6,
-            "begin lock mark get put get put commit",
-        ),
+    let cases = [
+        "begin 0 log; all; begin",
+        "begin 0 spent; all; begin",
+        "begin 0 fault; all; begin",
+        "begin 0 memory; all; begin",
+        "lock 0 locks; all; begin lock commit",
+        "lock 0 die; all; begin lock undo",
+        "lock 0 spent; all; begin lock",
+        "lock 0 fault; all; begin lock",
+        "lock 0 memory; all; begin lock undo",
+        "mark 0 spent; all; begin lock mark",
+        "mark 0 fault; all; begin lock mark",
+        "mark 0 memory; all; begin lock mark undo",
+        "get 0 spent; all; begin lock mark get",
+        "get 0 fault; all; begin lock mark get",
+        "get 0 memory; all; begin lock mark get undo",
+        "get 1 spent; all; begin lock mark get put get",
+        "get 1 fault; all, 5; begin lock mark get put get",
+        "get 1 memory; all; begin lock mark get put get undo",
+        "put 0 pages; all; begin lock mark get put undo_to commit",
+        "put 0 nodes; all; begin lock mark get put undo_to commit",
+        "put 0 txn; all; begin lock mark get put undo_to commit",
+        "put 0 spent; all; begin lock mark get put",
+        "put 0 fault; all; begin lock mark get put",
+        "put 0 memory; all; begin lock mark get put undo",
+        "put 1 pages; all; begin lock mark get put get put undo_to commit",
+        "put 1 nodes; all; begin lock mark get put get put undo_to commit",
+        "put 1 txn; all; begin lock mark get put get put undo_to commit",
+        "put 1 spent; all; begin lock mark get put get put",
+        "put 1 fault; all, 5; begin lock mark get put get put",
+        "put 1 memory; all; begin lock mark get put get put undo",
+        "commit 0 spent; all; begin lock mark get put get put commit",
+        "commit 0 fault; all, 5, 6; begin lock mark get put get put commit",
+        "commit 0 memory; all; begin lock mark get put get put commit undo",
+        "del 0 fault; ok 2; all, 5, 6; begin lock mark get put get put commit",
     ];
     let wrong = first_wrong(rt.alloc(), INSERT, &cases)?;
     assert!(rt; wrong.is_none(), "{wrong:?}");
@@ -336,858 +203,172 @@ fn an_insert_is_stopped(rt: HostRuntime) -> Result<(), Fail> {
 
 #[test]
 fn a_refused_insert_is_stopped(rt: HostRuntime) -> Result<(), Fail> {
-    let cases: [Case; 7] = [
-        (
-            Kind::UndoTo,
-            0,
-            SPENT,
-            "Spent { limit: 7 }",
-            ALL,
-            "begin lock mark get put get undo_to",
-        ),
-        (
-            Kind::UndoTo,
-            0,
-            FAULT,
-            "stopped",
-            WITH_5,
-            "begin lock mark get put get undo_to",
-        ),
-        (
-            Kind::UndoTo,
-            0,
-            MEMORY,
-            "out of memory",
-            ALL,
-            "begin lock mark get put get undo_to undo",
-        ),
-        (
-            Kind::UndoTo,
-            1,
-            FAULT,
-            "DUPLICATE 2",
-            ALL,
-            "begin lock mark get put get undo_to commit",
-        ),
-        (
-            Kind::Commit,
-            0,
-            SPENT,
-            "Spent { limit: 7 }",
-            ALL,
-            "begin lock mark get put get undo_to commit",
-        ),
-        (
-            Kind::Commit,
-            0,
-            FAULT,
-            "stopped",
-            ALL,
-            "begin lock mark get put get undo_to commit",
-        ),
-        (
-            Kind::Commit,
-            0,
-            MEMORY,
-            "out of memory",
-            ALL,
-            "begin lock mark get put get undo_to commit undo",
-        ),
+    let cases = [
+        "undo_to 0 spent; all; begin lock mark get put get undo_to",
+        "undo_to 0 fault; all, 5; begin lock mark get put get undo_to",
+        "undo_to 0 memory; all; begin lock mark get put get undo_to undo",
+        "undo_to 1 fault; DUPLICATE 2; all; begin lock mark get put get undo_to commit",
+        "commit 0 spent; all; begin lock mark get put get undo_to commit",
+        "commit 0 fault; all; begin lock mark get put get undo_to commit",
+        "commit 0 memory; all; begin lock mark get put get undo_to commit undo",
     ];
-    let wrong = first_wrong(rt.alloc(), DUPLICATE, &cases)?;
+    let wrong = first_wrong(rt.alloc(), "INSERT INTO kv VALUES (5, 50), (2, 0)", &cases)?;
     assert!(rt; wrong.is_none(), "{wrong:?}");
     Ok(())
 }
 
 #[test]
 fn an_update_is_stopped(rt: HostRuntime) -> Result<(), Fail> {
-    let cases: [Case; 32] = [
-        (
-            Kind::Lock,
-            0,
-            LOCKS,
-            "Resource(Locks { held: 1024, limit: 1024 })",
-            ALL,
-            "begin lock commit",
-        ),
-        (Kind::Lock, 0, DIE, "died 3 2", ALL, "begin lock undo"),
-        (
-            Kind::Lock,
-            0,
-            SPENT,
-            "Spent { limit: 7 }",
-            ALL,
-            "begin lock",
-        ),
-        (Kind::Lock, 0, FAULT, "stopped", ALL, "begin lock"),
-        (
-            Kind::Lock,
-            0,
-            MEMORY,
-            "out of memory",
-            ALL,
-            "begin lock undo",
-        ),
-        (
-            Kind::Mark,
-            0,
-            SPENT,
-            "Spent { limit: 7 }",
-            ALL,
-            "begin lock mark",
-        ),
-        (
-            Kind::Chunk,
-            0,
-            SPENT,
-            "Spent { limit: 7 }",
-            ALL,
-            "begin lock mark chunk",
-        ),
-        (
-            Kind::Chunk,
-            1,
-            SPENT,
-            "Spent { limit: 7 }",
-            ALL,
-            "begin lock mark chunk put chunk",
-        ),
-        (
-            Kind::Chunk,
-            2,
-            SPENT,
-            "Spent { limit: 7 }",
-            ALL,
-            "begin lock mark chunk put chunk put chunk",
-        ),
-        (Kind::Mark, 0, FAULT, "stopped", ALL, "begin lock mark"),
-        (
-            Kind::Chunk,
-            0,
-            FAULT,
-            "stopped",
-            ALL,
-            "begin lock mark chunk",
-        ),
-        (
-            Kind::Chunk,
-            1,
-            FAULT,
-            "stopped",
-            "0: 1, 10 / 0: 2, 21 / 0: 3, 30 / ",
-            "begin lock mark chunk put chunk",
-        ),
-        (
-            Kind::Chunk,
-            2,
-            FAULT,
-            "stopped",
-            "0: 1, 10 / 0: 2, 21 / 0: 3, 31 / ",
-            "begin lock mark chunk put chunk put chunk",
-        ),
-        (
-            Kind::Mark,
-            0,
-            MEMORY,
-            "out of memory",
-            ALL,
-            "begin lock mark undo",
-        ),
-        (
-            Kind::Chunk,
-            0,
-            MEMORY,
-            "out of memory",
-            ALL,
-            "begin lock mark chunk undo",
-        ),
-        (
-            Kind::Chunk,
-            1,
-            MEMORY,
-            "out of memory",
-            ALL,
-            "begin lock mark chunk put chunk undo",
-        ),
-        (
-            Kind::Chunk,
-            2,
-            MEMORY,
-            "out of memory",
-            ALL,
-            "begin lock mark chunk put chunk put chunk undo",
-        ),
-        (
-            Kind::Put,
-            0,
-            PAGES,
-            "Resource(Pages { used: 1, limit: 1 })",
-            ALL,
-            "begin lock mark chunk put undo_to commit",
-        ),
-        (
-            Kind::Put,
-            1,
-            PAGES,
-            "Resource(Pages { used: 1, limit: 1 })",
-            ALL,
-            "begin lock mark chunk put chunk put undo_to commit",
-        ),
-        (
-            Kind::Put,
-            0,
-            NODES,
-            "Resource(Nodes { used: 2, limit: 2 })",
-            ALL,
-            "begin lock mark chunk put undo_to commit",
-        ),
-        (
-            Kind::Put,
-            1,
-            NODES,
-            "Resource(Nodes { used: 2, limit: 2 })",
-            ALL,
-            "begin lock mark chunk put chunk put undo_to commit",
-        ),
-        (
-            Kind::Put,
-            0,
-            TXN,
-            "Resource(Txn { used: 3, limit: 4 })",
-            ALL,
-            "begin lock mark chunk put undo_to commit",
-        ),
-        (
-            Kind::Put,
-            1,
-            TXN,
-            "Resource(Txn { used: 3, limit: 4 })",
-            ALL,
-            "begin lock mark chunk put chunk put undo_to commit",
-        ),
-        (
-            Kind::Put,
-            0,
-            SPENT,
-            "Spent { limit: 7 }",
-            ALL,
-            "begin lock mark chunk put",
-        ),
-        (
-            Kind::Put,
-            1,
-            SPENT,
-            "Spent { limit: 7 }",
-            ALL,
-            "begin lock mark chunk put chunk put",
-        ),
-        (
-            Kind::Put,
-            0,
-            FAULT,
-            "stopped",
-            ALL,
-            "begin lock mark chunk put",
-        ),
-        (
-            Kind::Put,
-            1,
-            FAULT,
-            "stopped",
-            "0: 1, 10 / 0: 2, 21 / 0: 3, 30 / ",
-            "begin lock mark chunk put chunk put",
-        ),
-        (
-            Kind::Put,
-            0,
-            MEMORY,
-            "out of memory",
-            ALL,
-            "begin lock mark chunk put undo",
-        ),
-        (
-            Kind::Put,
-            1,
-            MEMORY,
-            "out of memory",
-            ALL,
-            "begin lock mark chunk put chunk put undo",
-        ),
-        (
-            Kind::Commit,
-            0,
-            SPENT,
-            "Spent { limit: 7 }",
-            ALL,
-            "begin lock mark chunk put chunk put chunk commit",
-        ),
-        (
-            Kind::Commit,
-            0,
-            FAULT,
-            "stopped",
-            "0: 1, 10 / 0: 2, 21 / 0: 3, 31 / ",
-            "begin lock mark chunk put chunk put chunk commit",
-        ),
-        (
-            Kind::Commit,
-            0,
-            MEMORY,
-            "out of memory",
-            ALL,
-            "begin lock mark chunk put chunk put chunk commit undo",
-        ),
+    let cases = [
+        "lock 0 locks; all; begin lock commit",
+        "lock 0 die; all; begin lock undo",
+        "lock 0 spent; all; begin lock",
+        "lock 0 fault; all; begin lock",
+        "lock 0 memory; all; begin lock undo",
+        "mark 0 spent; all; begin lock mark",
+        "chunk 0 spent; all; begin lock mark chunk",
+        "chunk 1 spent; all; begin lock mark chunk put chunk",
+        "chunk 2 spent; all; begin lock mark chunk put chunk put chunk",
+        "mark 0 fault; all; begin lock mark",
+        "chunk 0 fault; all; begin lock mark chunk",
+        "chunk 1 fault; 1, 2 changed, 3; begin lock mark chunk put chunk",
+        "chunk 2 fault; 1, 2 changed, 3 changed; begin lock mark chunk put chunk put chunk",
+        "mark 0 memory; all; begin lock mark undo",
+        "chunk 0 memory; all; begin lock mark chunk undo",
+        "chunk 1 memory; all; begin lock mark chunk put chunk undo",
+        "chunk 2 memory; all; begin lock mark chunk put chunk put chunk undo",
+        "put 0 pages; all; begin lock mark chunk put undo_to commit",
+        "put 1 pages; all; begin lock mark chunk put chunk put undo_to commit",
+        "put 0 nodes; all; begin lock mark chunk put undo_to commit",
+        "put 1 nodes; all; begin lock mark chunk put chunk put undo_to commit",
+        "put 0 txn; all; begin lock mark chunk put undo_to commit",
+        "put 1 txn; all; begin lock mark chunk put chunk put undo_to commit",
+        "put 0 spent; all; begin lock mark chunk put",
+        "put 1 spent; all; begin lock mark chunk put chunk put",
+        "put 0 fault; all; begin lock mark chunk put",
+        "put 1 fault; 1, 2 changed, 3; begin lock mark chunk put chunk put",
+        "put 0 memory; all; begin lock mark chunk put undo",
+        "put 1 memory; all; begin lock mark chunk put chunk put undo",
+        "commit 0 spent; all; begin lock mark chunk put chunk put chunk commit",
+        "commit 0 fault; 1, 2 changed, 3 changed; \
+         begin lock mark chunk put chunk put chunk commit",
+        "commit 0 memory; all; begin lock mark chunk put chunk put chunk commit undo",
     ];
-    let wrong = first_wrong(rt.alloc(), UPDATE, &cases)?;
+    let wrong = first_wrong(rt.alloc(), "UPDATE kv SET n = n + 1 WHERE id >= 2", &cases)?;
     assert!(rt; wrong.is_none(), "{wrong:?}");
     Ok(())
 }
 
 #[test]
 fn a_delete_is_stopped(rt: HostRuntime) -> Result<(), Fail> {
-    let cases: [Case; 28] = [
-        (
-            Kind::Lock,
-            0,
-            LOCKS,
-            "Resource(Locks { held: 1024, limit: 1024 })",
-            ALL,
-            "begin lock commit",
-        ),
-        (Kind::Lock, 0, DIE, "died 3 2", ALL, "begin lock undo"),
-        (
-            Kind::Lock,
-            0,
-            SPENT,
-            "Spent { limit: 7 }",
-            ALL,
-            "begin lock",
-        ),
-        (Kind::Lock, 0, FAULT, "stopped", ALL, "begin lock"),
-        (
-            Kind::Lock,
-            0,
-            MEMORY,
-            "out of memory",
-            ALL,
-            "begin lock undo",
-        ),
-        (
-            Kind::Mark,
-            0,
-            SPENT,
-            "Spent { limit: 7 }",
-            ALL,
-            "begin lock mark",
-        ),
-        (
-            Kind::Chunk,
-            0,
-            SPENT,
-            "Spent { limit: 7 }",
-            ALL,
-            "begin lock mark chunk",
-        ),
-        (
-            Kind::Chunk,
-            1,
-            SPENT,
-            "Spent { limit: 7 }",
-            ALL,
-            "begin lock mark chunk del chunk",
-        ),
-        (
-            Kind::Chunk,
-            2,
-            SPENT,
-            "Spent { limit: 7 }",
-            ALL,
-            "begin lock mark chunk del chunk del chunk",
-        ),
-        (Kind::Mark, 0, FAULT, "stopped", ALL, "begin lock mark"),
-        (
-            Kind::Chunk,
-            0,
-            FAULT,
-            "stopped",
-            ALL,
-            "begin lock mark chunk",
-        ),
-        (
-            Kind::Chunk,
-            1,
-            FAULT,
-            "stopped",
-            "0: 1, 10 / 0: 3, 30 / ",
-            "begin lock mark chunk del chunk",
-        ),
-        (
-            Kind::Chunk,
-            2,
-            FAULT,
-            "stopped",
-            "0: 1, 10 / ",
-            "begin lock mark chunk del chunk del chunk",
-        ),
-        (
-            Kind::Mark,
-            0,
-            MEMORY,
-            "out of memory",
-            ALL,
-            "begin lock mark undo",
-        ),
-        (
-            Kind::Chunk,
-            0,
-            MEMORY,
-            "out of memory",
-            ALL,
-            "begin lock mark chunk undo",
-        ),
-        (
-            Kind::Chunk,
-            1,
-            MEMORY,
-            "out of memory",
-            ALL,
-            "begin lock mark chunk del chunk undo",
-        ),
-        (
-            Kind::Chunk,
-            2,
-            MEMORY,
-            "out of memory",
-            ALL,
-            "begin lock mark chunk del chunk del chunk undo",
-        ),
-        (
-            Kind::Del,
-            0,
-            TXN,
-            "Resource(Txn { used: 3, limit: 4 })",
-            ALL,
-            "begin lock mark chunk del undo_to commit",
-        ),
-        (
-            Kind::Del,
-            1,
-            TXN,
-            "Resource(Txn { used: 3, limit: 4 })",
-            ALL,
-            "begin lock mark chunk del chunk del undo_to commit",
-        ),
-        (
-            Kind::Del,
-            0,
-            SPENT,
-            "Spent { limit: 7 }",
-            ALL,
-            "begin lock mark chunk del",
-        ),
-        (
-            Kind::Del,
-            1,
-            SPENT,
-            "Spent { limit: 7 }",
-            ALL,
-            "begin lock mark chunk del chunk del",
-        ),
-        (
-            Kind::Del,
-            0,
-            FAULT,
-            "stopped",
-            ALL,
-            "begin lock mark chunk del",
-        ),
-        (
-            Kind::Del,
-            1,
-            FAULT,
-            "stopped",
-            "0: 1, 10 / 0: 3, 30 / ",
-            "begin lock mark chunk del chunk del",
-        ),
-        (
-            Kind::Del,
-            0,
-            MEMORY,
-            "out of memory",
-            ALL,
-            "begin lock mark chunk del undo",
-        ),
-        (
-            Kind::Del,
-            1,
-            MEMORY,
-            "out of memory",
-            ALL,
-            "begin lock mark chunk del chunk del undo",
-        ),
-        (
-            Kind::Commit,
-            0,
-            SPENT,
-            "Spent { limit: 7 }",
-            ALL,
-            "begin lock mark chunk del chunk del chunk commit",
-        ),
-        (
-            Kind::Commit,
-            0,
-            FAULT,
-            "stopped",
-            "0: 1, 10 / ",
-            "begin lock mark chunk del chunk del chunk commit",
-        ),
-        (
-            Kind::Commit,
-            0,
-            MEMORY,
-            "out of memory",
-            ALL,
-            "begin lock mark chunk del chunk del chunk commit undo",
-        ),
+    let cases = [
+        "lock 0 locks; all; begin lock commit",
+        "lock 0 die; all; begin lock undo",
+        "lock 0 spent; all; begin lock",
+        "lock 0 fault; all; begin lock",
+        "lock 0 memory; all; begin lock undo",
+        "mark 0 spent; all; begin lock mark",
+        "chunk 0 spent; all; begin lock mark chunk",
+        "chunk 1 spent; all; begin lock mark chunk del chunk",
+        "chunk 2 spent; all; begin lock mark chunk del chunk del chunk",
+        "mark 0 fault; all; begin lock mark",
+        "chunk 0 fault; all; begin lock mark chunk",
+        "chunk 1 fault; 1, 3; begin lock mark chunk del chunk",
+        "chunk 2 fault; 1; begin lock mark chunk del chunk del chunk",
+        "mark 0 memory; all; begin lock mark undo",
+        "chunk 0 memory; all; begin lock mark chunk undo",
+        "chunk 1 memory; all; begin lock mark chunk del chunk undo",
+        "chunk 2 memory; all; begin lock mark chunk del chunk del chunk undo",
+        "del 0 txn; all; begin lock mark chunk del undo_to commit",
+        "del 1 txn; all; begin lock mark chunk del chunk del undo_to commit",
+        "del 0 spent; all; begin lock mark chunk del",
+        "del 1 spent; all; begin lock mark chunk del chunk del",
+        "del 0 fault; all; begin lock mark chunk del",
+        "del 1 fault; 1, 3; begin lock mark chunk del chunk del",
+        "del 0 memory; all; begin lock mark chunk del undo",
+        "del 1 memory; all; begin lock mark chunk del chunk del undo",
+        "commit 0 spent; all; begin lock mark chunk del chunk del chunk commit",
+        "commit 0 fault; 1; begin lock mark chunk del chunk del chunk commit",
+        "commit 0 memory; all; begin lock mark chunk del chunk del chunk commit undo",
     ];
-    let wrong = first_wrong(rt.alloc(), DELETE, &cases)?;
+    let wrong = first_wrong(rt.alloc(), "DELETE FROM kv WHERE id >= 2", &cases)?;
     assert!(rt; wrong.is_none(), "{wrong:?}");
     Ok(())
 }
 
 #[test]
 fn a_select_is_stopped(rt: HostRuntime) -> Result<(), Fail> {
-    let cases: [Case; 14] = [
-        (
-            Kind::Lock,
-            0,
-            LOCKS,
-            "Resource(Locks { held: 1024, limit: 1024 })",
-            ALL,
-            "begin lock commit",
-        ),
-        (Kind::Lock, 0, DIE, "died 3 2", ALL, "begin lock undo"),
-        (
-            Kind::Lock,
-            0,
-            SPENT,
-            "Spent { limit: 7 }",
-            ALL,
-            "begin lock",
-        ),
-        (Kind::Lock, 0, FAULT, "stopped", ALL, "begin lock"),
-        (
-            Kind::Lock,
-            0,
-            MEMORY,
-            "out of memory",
-            ALL,
-            "begin lock undo",
-        ),
-        (
-            Kind::Chunk,
-            0,
-            SPENT,
-            "Spent { limit: 7 }",
-            ALL,
-            "begin lock chunk",
-        ),
-        (
-            Kind::Chunk,
-            2,
-            SPENT,
-            "Spent { limit: 7 }",
-            ALL,
-            "begin lock chunk chunk chunk",
-        ),
-        (
-            Kind::Commit,
-            0,
-            SPENT,
-            "Spent { limit: 7 }",
-            ALL,
-            "begin lock chunk chunk chunk chunk commit",
-        ),
-        (Kind::Chunk, 0, FAULT, "stopped", ALL, "begin lock chunk"),
-        (
-            Kind::Chunk,
-            2,
-            FAULT,
-            "stopped",
-            ALL,
-            "begin lock chunk chunk chunk",
-        ),
-        (
-            Kind::Commit,
-            0,
-            FAULT,
-            "stopped",
-            ALL,
-            "begin lock chunk chunk chunk chunk commit",
-        ),
-        (
-            Kind::Chunk,
-            0,
-            MEMORY,
-            "out of memory",
-            ALL,
-            "begin lock chunk undo",
-        ),
-        (
-            Kind::Chunk,
-            2,
-            MEMORY,
-            "out of memory",
-            ALL,
-            "begin lock chunk chunk chunk undo",
-        ),
-        (
-            Kind::Commit,
-            0,
-            MEMORY,
-            "out of memory",
-            ALL,
-            "begin lock chunk chunk chunk chunk commit undo",
-        ),
+    let cases = [
+        "lock 0 locks; all; begin lock commit",
+        "lock 0 die; all; begin lock undo",
+        "lock 0 spent; all; begin lock",
+        "lock 0 fault; all; begin lock",
+        "lock 0 memory; all; begin lock undo",
+        "chunk 0 spent; all; begin lock chunk",
+        "chunk 2 spent; all; begin lock chunk chunk chunk",
+        "commit 0 spent; all; begin lock chunk chunk chunk chunk commit",
+        "chunk 0 fault; all; begin lock chunk",
+        "chunk 2 fault; all; begin lock chunk chunk chunk",
+        "commit 0 fault; all; begin lock chunk chunk chunk chunk commit",
+        "chunk 0 memory; all; begin lock chunk undo",
+        "chunk 2 memory; all; begin lock chunk chunk chunk undo",
+        "commit 0 memory; all; begin lock chunk chunk chunk chunk commit undo",
     ];
-    let wrong = first_wrong(rt.alloc(), SELECT, &cases)?;
+    let wrong = first_wrong(rt.alloc(), "SELECT id FROM kv", &cases)?;
     assert!(rt; wrong.is_none(), "{wrong:?}");
     Ok(())
 }
 
 #[test]
 fn totals_are_stopped(rt: HostRuntime) -> Result<(), Fail> {
-    let cases: [Case; 14] = [
-        (
-            Kind::Lock,
-            0,
-            LOCKS,
-            "Resource(Locks { held: 1024, limit: 1024 })",
-            ALL,
-            "begin lock commit",
-        ),
-        (Kind::Lock, 0, DIE, "died 3 2", ALL, "begin lock undo"),
-        (
-            Kind::Lock,
-            0,
-            SPENT,
-            "Spent { limit: 7 }",
-            ALL,
-            "begin lock",
-        ),
-        (Kind::Lock, 0, FAULT, "stopped", ALL, "begin lock"),
-        (
-            Kind::Lock,
-            0,
-            MEMORY,
-            "out of memory",
-            ALL,
-            "begin lock undo",
-        ),
-        (
-            Kind::Chunk,
-            0,
-            SPENT,
-            "Spent { limit: 7 }",
-            ALL,
-            "begin lock chunk",
-        ),
-        (
-            Kind::Chunk,
-            2,
-            SPENT,
-            "Spent { limit: 7 }",
-            ALL,
-            "begin lock chunk chunk chunk",
-        ),
-        (
-            Kind::Commit,
-            0,
-            SPENT,
-            "Spent { limit: 7 }",
-            ALL,
-            "begin lock chunk chunk chunk chunk commit",
-        ),
-        (Kind::Chunk, 0, FAULT, "stopped", ALL, "begin lock chunk"),
-        (
-            Kind::Chunk,
-            2,
-            FAULT,
-            "stopped",
-            ALL,
-            "begin lock chunk chunk chunk",
-        ),
-        (
-            Kind::Commit,
-            0,
-            FAULT,
-            "stopped",
-            ALL,
-            "begin lock chunk chunk chunk chunk commit",
-        ),
-        (
-            Kind::Chunk,
-            0,
-            MEMORY,
-            "out of memory",
-            ALL,
-            "begin lock chunk undo",
-        ),
-        (
-            Kind::Chunk,
-            2,
-            MEMORY,
-            "out of memory",
-            ALL,
-            "begin lock chunk chunk chunk undo",
-        ),
-        (
-            Kind::Commit,
-            0,
-            MEMORY,
-            "out of memory",
-            ALL,
-            "begin lock chunk chunk chunk chunk commit undo",
-        ),
+    let cases = [
+        "lock 0 locks; all; begin lock commit",
+        "lock 0 die; all; begin lock undo",
+        "lock 0 spent; all; begin lock",
+        "lock 0 fault; all; begin lock",
+        "lock 0 memory; all; begin lock undo",
+        "chunk 0 spent; all; begin lock chunk",
+        "chunk 2 spent; all; begin lock chunk chunk chunk",
+        "commit 0 spent; all; begin lock chunk chunk chunk chunk commit",
+        "chunk 0 fault; all; begin lock chunk",
+        "chunk 2 fault; all; begin lock chunk chunk chunk",
+        "commit 0 fault; all; begin lock chunk chunk chunk chunk commit",
+        "chunk 0 memory; all; begin lock chunk undo",
+        "chunk 2 memory; all; begin lock chunk chunk chunk undo",
+        "commit 0 memory; all; begin lock chunk chunk chunk chunk commit undo",
     ];
-    let wrong = first_wrong(rt.alloc(), TOTALS, &cases)?;
+    let wrong = first_wrong(rt.alloc(), "SELECT COUNT(*) FROM kv", &cases)?;
     assert!(rt; wrong.is_none(), "{wrong:?}");
     Ok(())
 }
 
 #[test]
 fn a_block_is_stopped(rt: HostRuntime) -> Result<(), Fail> {
-    let cases: [Case; 18] = [
-        (
-            Kind::Begin,
-            0,
-            LOG,
-            "Resource(LogFull { bytes: 9, limit: 8 }) / NoBlock / NoBlock / NoBlock / NoBlock",
-            ALL,
-            "begin",
-        ),
-        (
-            Kind::Begin,
-            0,
-            SPENT,
-            "Spent { limit: 7 } / NoBlock / NoBlock / NoBlock / NoBlock",
-            ALL,
-            "begin",
-        ),
-        (Kind::Begin, 0, FAULT, "stopped", ALL, "begin"),
-        (Kind::Begin, 0, MEMORY, "out of memory", ALL, "begin"),
-        (
-            Kind::Lock,
-            1,
-            LOCKS,
-            "ok / ok 1 / Resource(Locks { held: 1024, limit: 1024 }) / rows 0 / ok",
-            WITH_5,
-            "begin lock mark get put lock lock chunk commit",
-        ),
-        (
-            Kind::Lock,
-            1,
-            DIE,
-            "died 3 2",
-            ALL,
-            "begin lock mark get put lock undo",
-        ),
-        (
-            Kind::Lock,
-            2,
-            DIE,
-            "died 3 2",
-            ALL,
-            "begin lock mark get put lock mark get put lock undo",
-        ),
-        (
-            Kind::Lock,
-            1,
-            SPENT,
-            "ok / ok 1 / Spent { limit: 7 } / NoBlock / NoBlock",
-            ALL,
-            "begin lock mark get put lock",
-        ),
-        (
-            Kind::Lock,
-            0,
-            SPENT,
-            "ok / Spent { limit: 7 } / NoBlock / NoBlock / NoBlock",
-            ALL,
-            "begin lock",
-        ),
-        (
-            Kind::Lock,
-            2,
-            SPENT,
-            "ok / ok 1 / ok 1 / Spent { limit: 7 } / NoBlock",
-            ALL,
-            "begin lock mark get put lock mark get put lock",
-        ),
-        (
-            Kind::Put,
-            1,
-            PAGES,
-            "ok / ok 1 / Resource(Pages { used: 1, limit: 1 }) / rows 0 / ok",
-            WITH_5,
-            "begin lock mark get put lock mark get put undo_to lock chunk commit",
-        ),
-        (
-            Kind::Put,
-            0,
-            TXN,
-            "ok / Resource(Txn { used: 3, limit: 4 }) / ok 1 / 6 / rows 1 / ok",
-            "0: 1, 10 / 0: 2, 20 / 0: 3, 30 / 0: 6, 60 / ",
-            "begin lock mark get put undo_to lock mark get put lock chunk commit",
-        ),
-        (
-            Kind::Put,
-            1,
-            FAULT,
-            "stopped",
-            WITH_5,
-            "begin lock mark get put lock mark get put",
-        ),
-        (
-            Kind::Put,
-            1,
-            MEMORY,
-            "out of memory",
-            ALL,
-            "begin lock mark get put lock mark get put undo",
-        ),
-        (
-            Kind::Put,
-            1,
-            SPENT,
-            "ok / ok 1 / Spent { limit: 7 } / NoBlock / NoBlock",
-            ALL,
-            "begin lock mark get put lock mark get put",
-        ),
-        (
-            Kind::Commit,
-            0,
-            SPENT,
-            "ok / ok 1 / ok 1 / 6 / rows 1 / Spent { limit: 7 }",
-            ALL,
-            "begin lock mark get put lock mark get put lock chunk commit",
-        ),
-        (
-            Kind::Commit,
-            0,
-            FAULT,
-            "stopped",
-            WITH_6,
-            "begin lock mark get put lock mark get put lock chunk commit",
-        ),
-        (
-            Kind::Commit,
-            0,
-            MEMORY,
-            "out of memory",
-            ALL,
-            "begin lock mark get put lock mark get put lock chunk commit undo",
-        ),
+    let cases = [
+        "begin 0 log; _ / NoBlock / NoBlock / NoBlock / NoBlock; all; begin",
+        "begin 0 spent; _ / NoBlock / NoBlock / NoBlock / NoBlock; all; begin",
+        "begin 0 fault; all; begin",
+        "begin 0 memory; all; begin",
+        "lock 1 locks; ok / ok 1 / _ / rows 0 / ok; all, 5; \
+         begin lock mark get put lock lock chunk commit",
+        "lock 1 die; all; begin lock mark get put lock undo",
+        "lock 2 die; all; begin lock mark get put lock mark get put lock undo",
+        "lock 1 spent; ok / ok 1 / _ / NoBlock / NoBlock; all; begin lock mark get put lock",
+        "lock 0 spent; ok / _ / NoBlock / NoBlock / NoBlock; all; begin lock",
+        "lock 2 spent; ok / ok 1 / ok 1 / _ / NoBlock; all; \
+         begin lock mark get put lock mark get put lock",
+        "put 1 pages; ok / ok 1 / _ / rows 0 / ok; all, 5; \
+         begin lock mark get put lock mark get put undo_to lock chunk commit",
+        "put 0 txn; ok / _ / ok 1 / 6 / rows 1 / ok; all, 6; \
+         begin lock mark get put undo_to lock mark get put lock chunk commit",
+        "put 1 fault; all, 5; begin lock mark get put lock mark get put",
+        "put 1 memory; all; begin lock mark get put lock mark get put undo",
+        "put 1 spent; ok / ok 1 / _ / NoBlock / NoBlock; all; \
+         begin lock mark get put lock mark get put",
+        "commit 0 spent; ok / ok 1 / ok 1 / 6 / rows 1 / _; all; \
+         begin lock mark get put lock mark get put lock chunk commit",
+        "commit 0 fault; all, 5, 6; begin lock mark get put lock mark get put lock chunk commit",
+        "commit 0 memory; all; begin lock mark get put lock mark get put lock chunk commit undo",
     ];
     let wrong = first_wrong(rt.alloc(), TWO, &cases)?;
     assert!(rt; wrong.is_none(), "{wrong:?}");
@@ -1196,85 +377,34 @@ fn a_block_is_stopped(rt: HostRuntime) -> Result<(), Fail> {
 
 #[test]
 fn a_rollback_is_stopped(rt: HostRuntime) -> Result<(), Fail> {
-    let cases: [Case; 4] = [
-        (
-            Kind::Undo,
-            0,
-            SPENT,
-            "ok / ok 1 / Spent { limit: 7 }",
-            ALL,
-            "begin lock mark get put undo",
-        ),
-        (
-            Kind::Undo,
-            0,
-            FAULT,
-            "stopped",
-            WITH_5,
-            "begin lock mark get put undo",
-        ),
-        (
-            Kind::Undo,
-            0,
-            MEMORY,
-            "out of memory",
-            ALL,
-            "begin lock mark get put undo undo",
-        ),
-        (
-            Kind::Undo,
-            1,
-            FAULT,
-            "ok / ok 1 / ok",
-            ALL,
-            "begin lock mark get put undo",
-        ),
+    let cases = [
+        "undo 0 spent; ok / ok 1 / _; all; begin lock mark get put undo",
+        "undo 0 fault; all, 5; begin lock mark get put undo",
+        "undo 0 memory; all; begin lock mark get put undo undo",
+        "undo 1 fault; ok / ok 1 / ok; all; begin lock mark get put undo",
     ];
-    let wrong = first_wrong(rt.alloc(), BACK, &cases)?;
+    let wrong = first_wrong(
+        rt.alloc(),
+        "BEGIN; INSERT INTO kv VALUES (5, 50); ROLLBACK",
+        &cases,
+    )?;
     assert!(rt; wrong.is_none(), "{wrong:?}");
     Ok(())
 }
 
 #[test]
 fn a_block_that_is_cut_off_is_stopped(rt: HostRuntime) -> Result<(), Fail> {
-    let cases: [Case; 4] = [
-        (
-            Kind::Undo,
-            0,
-            SPENT,
-            "ok / ok 1",
-            ALL,
-            "begin lock mark chunk del undo",
-        ),
-        (
-            Kind::Undo,
-            0,
-            FAULT,
-            "stopped",
-            "0: 2, 20 / 0: 3, 30 / ",
-            "begin lock mark chunk del undo",
-        ),
-        (
-            Kind::Undo,
-            0,
-            MEMORY,
-            "out of memory",
-            ALL,
-            "begin lock mark chunk del undo undo",
-        ),
-        (
-            Kind::Undo,
-            1,
-            FAULT,
-            "ok / ok 1",
-            ALL,
-            "begin lock mark chunk del undo",
-        ),
+    let cases = [
+        "undo 0 spent; ok / ok 1; all; begin lock mark chunk del undo",
+        "undo 0 fault; 2, 3; begin lock mark chunk del undo",
+        "undo 0 memory; all; begin lock mark chunk del undo undo",
+        "undo 1 fault; ok / ok 1; all; begin lock mark chunk del undo",
     ];
-    let wrong = first_wrong(rt.alloc(), CUT_OFF, &cases)?;
+    let wrong = first_wrong(rt.alloc(), "BEGIN; DELETE FROM kv WHERE id = 1", &cases)?;
     assert!(rt; wrong.is_none(), "{wrong:?}");
     Ok(())
 }
+
 /// Tries the block of two rows once for each age and stop of its lock, and returns the first try that comes
 /// to something else than is wanted.
 fn wrong_age(
