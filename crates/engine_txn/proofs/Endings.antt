@@ -26,7 +26,7 @@ use Rattle.sql_exec.specs.Plays.{PlaysFrom}
 use Rattle.engine_txn.specs.declared.ended.Ended.{Ended}
 use Rattle.engine_txn.specs.declared.ended.Ended.TheVariants.{Done, Spent}
 use Rattle.engine_txn.specs.declared.read.Read.TheVariants.{Allowed}
-use Rattle.engine_txn.specs.Transactions.{here, then, Continues, Grown, HasBegun}
+use Rattle.engine_txn.specs.Transactions.{here, then, CommitsLast, Continues, Grown, HasBegun, Uncommitted}
 use Rattle.engine_txn.specs.Steps.{EndsAs, Fails, Halts, end_asks, end_call, reply_at, spent_reply, with_end}
 use Rattle.engine_txn.specs.BlockSaid.{ReplyWasGiven, left_by}
 use Rattle.engine_txn.specs.StatementRuns.{RunsStatement, Works, is_row_work}
@@ -89,6 +89,15 @@ begins_nothing CutOff Done old = then _ old refl here
 begins_nothing Commit (Spent limit) old = then _ old refl here
 begins_nothing Rollback (Spent limit) old = then _ old refl here
 begins_nothing CutOff (Spent limit) old = then _ old refl here
+
+-- a commit is the last call
+end_commits : (end : BlockEnd) (ended : Ended) (begun old : List Call) → Uncommitted begun old → CommitsLast begun (call_at end ended ∷ old)
+end_commits Commit Done begun old kept = inr (old, refl, kept)
+end_commits Rollback Done begun old kept = inl (then _ old refl kept)
+end_commits CutOff Done begun old kept = inl (then _ old refl kept)
+end_commits Commit (Spent limit) begun old kept = inl (then _ old refl kept)
+end_commits Rollback (Spent limit) begun old kept = inl (then _ old refl kept)
+end_commits CutOff (Spent limit) begun old kept = inl (then _ old refl kept)
 
 pub fails_halts : (stop : Stop) → Fails stop → Halts stop
 fails_halts (stops.Fault file) is = tt
@@ -157,6 +166,7 @@ module _ (defs : List TableDef) (t : Transaction) (begun : List Call) (has : Has
         causes = all_with_end (ReplyWasGiven defs begun (last ∷ now)) t.end said (reply_at ended replies.Done)
             (all_given_on defs begun begun now (last ∷ now) here (begins_nothing t.end ended now) said going.causes)
             (end_given defs t.end ended begun now replies.Done more tt);
+        commits = end_commits t.end ended begun now (works_uncommitted begun now going.works);
         ended = stops_running t.end ended now;
       } in
       subst (λ (calls : List Call). Answered defs (Behind t) begun (with_end t.end said (reply_at ended replies.Done)) calls) (sym is) behind
@@ -180,6 +190,7 @@ module _ (defs : List TableDef) (t : Transaction) (begun : List Call) (has : Has
         ran = record { mid = now; works = cut.works; texts = cut.runs; ends = here };
         means = λ first plays. subst (TransactionAnswers t.statements t.end first (said ++ without_block (rest_of t said) t.end)) (sym (left_first first begun now has cut.works)) (cut.said first plays);
         causes = all_append (ReplyWasGiven defs begun now) said (without_block (rest_of t said) t.end) cut.causes (all_no_block (ReplyWasGiven defs begun now) (rest_of t said) t.end tt);
+        commits = inl (works_uncommitted begun now cut.works);
         ended = cut.ended;
       } in
       subst (λ (l : List Reply). Answered defs (Behind t) begun l now) (sym is) behind
@@ -206,6 +217,7 @@ module _ (defs : List TableDef) (text : Placed) (statement : Statement) (begun n
         ran = record { mid = now; works = works; texts = texts_one false defs text [] statement begun now read runs; ends = then last now (call_is_end Commit ended) here };
         means = λ first plays. (Ok statement, read.0, (reply_at ended reply, refl, alone_means ended statement first reply now read.1 (answers first (plays_back defs first now (last ∷ now) (begins_nothing Commit ended now) plays))));
         causes = (end_given defs Commit ended begun now reply (grown is_row_work begun now works) (given_on defs begun begun now (last ∷ now) here (begins_nothing Commit ended now) reply given), tt);
+        commits = end_commits Commit ended begun now (works_uncommitted begun now works);
         ended = stops_running Commit ended now;
       } in
       subst (λ (calls : List Call). Answered defs (Alone text) begun (reply_at ended reply ∷ []) calls) (sym is) behind
@@ -231,6 +243,7 @@ module _ (defs : List TableDef) (text : Placed) (statement : Statement) (begun n
         ran = record { mid = now; works = works; texts = texts_one false defs text [] statement begun now read runs; ends = here };
         means = λ first plays. (Ok statement, read.0, (replies.Refused (refusals.Spent limit), refl, inr (read.1, inl (limit, refl), left_first first begun now has works)));
         causes = (spent_given defs limit begun now now has (grown is_row_work begun now works) ends here, tt);
+        commits = inl (works_uncommitted begun now works);
         ended = spent_stops limit now ends;
       }
 

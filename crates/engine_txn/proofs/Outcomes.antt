@@ -25,7 +25,7 @@ use Rattle.engine_txn.specs.declared.begun.Begun.TheVariants.{Running}
 use Rattle.engine_txn.specs.declared.read.Read.TheVariants.{Allowed, Refused as NotRead}
 use Rattle.engine_txn.specs.declared.tried.Tried.{Tried}
 use Rattle.engine_txn.specs.declared.tried.Tried.TheVariants as tries
-use Rattle.engine_txn.specs.Transactions.{AllSince, here, then, Continues, Grown, HasBegun, IsGivenUp, IsOneTry, Uncommitted, is_commit}
+use Rattle.engine_txn.specs.Transactions.{AllSince, here, then, CommitsLast, Continues, Grown, HasBegun, IsGivenUp, IsOneTry, Uncommitted, is_commit}
 use Rattle.engine_txn.specs.Steps.{Begins, Fails, FailsAs, GivesUp, RefusesBegin, RunsBehind}
 use Rattle.engine_txn.specs.BlockSaid.{ReplyWasGiven, left_by}
 use Rattle.engine_txn.specs.StatementRuns.{RunsBlock, has_begin, is_row_work, texts_of}
@@ -104,6 +104,10 @@ module _ (defs : List TableDef) (block : Block) (age : Option ℕ) (number : ℕ
       let test = λ (call : Call). not (is_commit call) in
       since_trans test old begun new (then (Began age number) old refl here) (since_trans test begun mid new kept more)
 
+  commits_on : (new : List Call) → CommitsLast begun new → CommitsLast old new
+  commits_on new (inl kept) = inl (kept_on new new kept here)
+  commits_on new (inr (before, is, kept)) = inr (before, is, kept_on before before kept here)
+
   -- it was answered
   pub tried_said : (tried : Tried) (list : List Reply) (new : List Call) → Says tried list → Answered defs block begun list new → Tries defs age block old tried new
   tried_said tries.Stopped list new is answered = absurd is
@@ -111,6 +115,7 @@ module _ (defs : List TableDef) (block : Block) (age : Option ℕ) (number : ℕ
   tried_said (tries.Died holder own) list new is answered = absurd is
   tried_said (tries.Said said) list new is answered = record {
     began = one_try new answered.ran;
+    commits = commits_on new answered.commits;
     said = inr (record {
       calls = (number, ran_continues new answered.ran);
       means = λ first plays. subst (λ (l : List Reply). block_means block first l (left_by first new)) (sym is) (answered.means first plays);
@@ -132,6 +137,7 @@ module _ (defs : List TableDef) (block : Block) (age : Option ℕ) (number : ℕ
       let goes = since_past (λ call. not (is_begin call)) (Stopped ends.asked (stops.Die holder)) begun ends.before mid has refl ends.last (ran_continues mid broken.ran) in
       record {
         began = one_try new ran;
+        commits = inl (kept_on mid new broken.kept (given_up_kept mid new undone));
         said = tt;
         causes = tt;
         calls = runs_block new ran;
@@ -152,6 +158,7 @@ module _ (defs : List TableDef) (block : Block) (age : Option ℕ) (number : ℕ
       let ran = ran_on mid new broken.ran (subst (AllSince is_end mid) (sym same) here) in
       record {
         began = one_try new ran;
+        commits = inl (kept_on mid new broken.kept (subst (Uncommitted mid) (sym same) here));
         said = tt;
         causes = tt;
         calls = runs_block new ran;
@@ -170,6 +177,7 @@ module _ (defs : List TableDef) (block : Block) (age : Option ℕ) (number : ℕ
       let ran = ran_on mid new broken.ran (subst (AllSince is_end mid) (sym is) (then (Stopped AskUndo (stops.Fault file)) mid refl here)) in
       record {
         began = one_try new ran;
+        commits = inl (kept_on mid new broken.kept (subst (Uncommitted mid) (sym is) (then (Stopped AskUndo (stops.Fault file)) mid refl here)));
         said = tt;
         causes = tt;
         calls = runs_block new ran;
@@ -188,6 +196,7 @@ module _ (defs : List TableDef) (block : Block) (age : Option ℕ) (number : ℕ
       let ran = ran_on mid new broken.ran (subst (AllSince is_end mid) (sym same) here) in
       record {
         began = one_try new ran;
+        commits = inl (kept_on mid new broken.kept (subst (Uncommitted mid) (sym same) here));
         said = tt;
         causes = tt;
         calls = runs_block new ran;
@@ -200,6 +209,7 @@ module _ (defs : List TableDef) (block : Block) (age : Option ℕ) (number : ℕ
       let ran = ran_on mid new broken.ran (given_up_ends mid new undone) in
       record {
         began = one_try new ran;
+        commits = inl (kept_on mid new broken.kept (given_up_kept mid new undone));
         said = tt;
         causes = tt;
         calls = runs_block new ran;
@@ -212,6 +222,7 @@ module _ (defs : List TableDef) (block : Block) (age : Option ℕ) (number : ℕ
       let ran = ran_on mid new broken.ran (subst (AllSince is_end mid) (sym is) (then (Stopped AskUndo stops.OutOfMemory) mid refl here)) in
       record {
         began = one_try new ran;
+        commits = inl (kept_on mid new broken.kept (subst (Uncommitted mid) (sym is) (then (Stopped AskUndo stops.OutOfMemory) mid refl here)));
         said = tt;
         causes = tt;
         calls = runs_block new ran;
@@ -305,6 +316,10 @@ module _ (defs : List TableDef) (age : Option ℕ) (block : Block) (old : List C
   nothing_runs : (new : List Call) → AllSince (λ call. not (is_row_work call)) old new → RunsBlock defs block old new
   nothing_runs new no_work = record { begun = new; ended = new; begins = no_work; texts = texts_none (has_begin block) defs (texts_of block) new; ends = here }
 
+  nothing_commits : (new : List Call) → (new ≡ old) ⊎ ((stop : Stop) × (new ≡ unanswered age stop old)) → CommitsLast old new
+  nothing_commits new (inl same) = inl (subst (Uncommitted old) (sym same) here)
+  nothing_commits new (inr (stop, is)) = inl (subst (Uncommitted old) (sym is) (then (Stopped (AskBegin age) stop) old refl here))
+
   -- the replies are the block's on any tables
   without : (tried : Tried) (list : List Reply) (new : List Call) → Says tried list → (new ≡ old) ⊎ ((stop : Stop) × (new ≡ unanswered age stop old)) → AllSince (λ call. not (is_row_work call)) old new
       → ((first : Tables) → block_means block first list first) → AllByRecursion (ReplyWasGiven defs old new) list → is_running new ≡ false → Tries defs age block old tried new
@@ -313,6 +328,7 @@ module _ (defs : List TableDef) (age : Option ℕ) (block : Block) (old : List C
   without (tries.Died holder own) list new is none no_work means given idle = absurd is
   without (tries.Said said) list new is none no_work means given idle = record {
     began = inl none;
+    commits = nothing_commits new none;
     said = inl (record { calls = none; means = λ first. subst (λ (l : List Reply). block_means block first l first) (sym is) (means first) });
     causes = subst (λ (l : List Reply). AllByRecursion (ReplyWasGiven defs old new) l) (sym is) given;
     calls = nothing_runs new no_work;
@@ -334,6 +350,7 @@ module _ (defs : List TableDef) (age : Option ℕ) (block : Block) (old : List C
   pub no_memory : is_running old ≡ false → Tries defs age block old tries.OutOfMemory old
   no_memory idle = record {
     began = inl (inl refl);
+    commits = inl here;
     said = tt;
     causes = tt;
     calls = nothing_runs old here;
@@ -347,6 +364,7 @@ module _ (defs : List TableDef) (age : Option ℕ) (block : Block) (old : List C
   begin_fails : (stop : Stop) (tried : Tried) → Fails stop → FailsAs stop tried → is_running old ≡ false → Tries defs age block old tried (unanswered age stop old)
   begin_fails (stops.Fault file) tried fails is idle = subst (λ (x : Tried). Tries defs age block old x (unanswered age (stops.Fault file) old)) (sym is) (record {
     began = inl (inr (stops.Fault file, refl));
+    commits = inl (then (Stopped (AskBegin age) (stops.Fault file)) old refl here);
     said = tt;
     causes = tt;
     calls = nothing_runs (unanswered age (stops.Fault file) old) (then (Stopped (AskBegin age) (stops.Fault file)) old refl here);
@@ -357,6 +375,7 @@ module _ (defs : List TableDef) (age : Option ℕ) (block : Block) (old : List C
   })
   begin_fails stops.OutOfMemory tried fails is idle = subst (λ (x : Tried). Tries defs age block old x (unanswered age stops.OutOfMemory old)) (sym is) (record {
     began = inl (inr (stops.OutOfMemory, refl));
+    commits = inl (then (Stopped (AskBegin age) stops.OutOfMemory) old refl here);
     said = tt;
     causes = tt;
     calls = nothing_runs (unanswered age stops.OutOfMemory old) (then (Stopped (AskBegin age) stops.OutOfMemory) old refl here);

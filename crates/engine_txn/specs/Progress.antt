@@ -24,7 +24,7 @@ use Rattle.engine_txn.specs.declared.read.Read.TheVariants.{Allowed, Refused as 
 use Rattle.engine_txn.specs.BlockSaid.{MeansBlock, ReplyWasGiven}
 use Rattle.engine_txn.specs.StatementRuns.{RunsStatement, RunsText, RunsTexts, Works, has_begin, texts_of}
 use Rattle.engine_txn.specs.Steps.{Halts}
-use Rattle.engine_txn.specs.Transactions.{AllSince, Uncommitted}
+use Rattle.engine_txn.specs.Transactions.{AllSince, CommitsLast, Uncommitted}
 
 -- ---- One text
 
@@ -126,6 +126,7 @@ pub record Answered (defs : List TableDef) (block : Block) (begun : List Call)
   pub ran : Ran defs block begun now
   pub means : MeansBlock defs block replies now
   pub causes : AllByRecursion (ReplyWasGiven defs begun now) replies
+  pub commits : CommitsLast begun now
   pub ended : is_running now ≡ false
 
 -- a stop came before anything was committed

@@ -33,6 +33,11 @@ is_commit call = false
 abbrev pub Uncommitted : List Call → List Call → Type 0
 Uncommitted old new = AllSince (λ call. not (is_commit call)) old new
 
+-- nothing was committed since, or by the last call alone
+abbrev pub CommitsLast : List Call → List Call → Type 0
+CommitsLast old new =
+    Uncommitted old new ⊎ ((before : List Call) × (new ≡ Committed ∷ before) × Uncommitted old before)
+
 -- no transaction was begun since
 abbrev pub Continues : List Call → List Call → Type 0
 Continues old new = AllSince (λ call. not (is_begin call)) old new

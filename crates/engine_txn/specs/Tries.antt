@@ -9,7 +9,8 @@ use Rattle.engine_txn.specs.declared.tried.Tried.{Tried}
 use Rattle.engine_txn.specs.declared.tried.Tried.TheVariants.{Said, Stopped, OutOfMemory, Died}
 use Rattle.engine_txn.specs.BlockSaid.{BlockSaid, ReplyWasGiven}
 use Rattle.engine_txn.specs.StatementRuns.{RunsBlock}
-use Rattle.engine_txn.specs.Transactions.{DiedBy, EndsByFault, IsOneTry, IsUndone, Uncommitted}
+use Rattle.engine_txn.specs.Transactions.{CommitsLast, DiedBy, EndsByFault, IsOneTry, IsUndone}
+use Rattle.engine_txn.specs.Transactions.{Uncommitted}
 
 -- the replies are these
 abbrev pub Says : Tried → List Reply → Type 0
@@ -58,6 +59,7 @@ HasEnded Stopped new = ⊤
 pub record Tries (defs : List TableDef) (age : Option ℕ) (block : Block)
     (old : List Call) (tried : Tried) (new : List Call) : Type 0 where
   pub began : IsOneTry age old new
+  pub commits : CommitsLast old new
   pub said : IfSaid tried (λ replies. BlockSaid defs age block replies old new)
   pub causes : IfSaid tried (λ replies. AllByRecursion (ReplyWasGiven defs old new) replies)
   pub calls : RunsBlock defs block old new

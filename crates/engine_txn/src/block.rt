@@ -14,7 +14,8 @@ ghost use Rattle.engine_txn.specs.StatementRuns.{RunsBlock};
 ghost use Rattle.engine_txn.specs.Steps.{Begins, EndsAs, Fails, FailsAs, GivesUp, Halts, RunsBehind};
 ghost use Rattle.engine_txn.specs.Steps.{UndoneAs};
 ghost use Rattle.engine_txn.specs.Steps.{spent_reply, with_end};
-ghost use Rattle.engine_txn.specs.Transactions.{DiedBy, EndsByFault, HasBegun, IsOneTry, Uncommitted};
+ghost use Rattle.engine_txn.specs.Transactions.{CommitsLast, DiedBy, EndsByFault, HasBegun, IsOneTry};
+ghost use Rattle.engine_txn.specs.Transactions.{Uncommitted};
 ghost use Rattle.engine_txn.specs.Tries.{IfDied, IfSaid, IfStopped, HasEnded, IsKept, Says, Tries};
 
 use crate::begun::Begun;
@@ -298,6 +299,8 @@ pub fn try_block<B: BlockCalls>(
     ensures schema { B.defs calls.new ≡ B.defs calls.old }
     // At most one transaction, whose begin comes directly after the calls before.
     ensures began { IsOneTry age (B.calls calls.old) (B.calls calls.new) }
+    // At most one commit, and nothing is called behind it.
+    ensures commits { CommitsLast (B.calls calls.old) (B.calls calls.new) }
     // Replies and effect.
     ensures said { IfSaid result (λ replies. BlockSaid (B.defs calls.old) age block.now replies
         (B.calls calls.old) (B.calls calls.new)) }
