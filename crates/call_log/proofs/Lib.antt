@@ -1,0 +1,4 @@
+pub mod Fitting
+pub mod Histories
+pub mod Standings
+pub mod Walks

@@ -1,0 +1,4 @@
+pub mod History
+pub mod Noted
+pub mod Played
+pub mod Standing
