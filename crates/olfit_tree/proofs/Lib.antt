@@ -1,4 +1,14 @@
+pub mod Built
 pub mod Chains
+pub mod Growing
+pub mod Laid
+pub mod Levels
+pub mod Marks
+pub mod Opened
+pub mod Payments
+pub mod Pieces
+pub mod Rows
 pub mod Seen
+pub mod Sizes
 pub mod Works
 pub mod Zeros

@@ -17,7 +17,7 @@ use Rattle.olfit_change.specs.Room.{weight, IsPaid}
 use Rattle.olfit_change.specs.States.{IsFreeFrom, HasLowVersions}
 use Rattle.olfit_change.proofs.Weights.{weight_none}
 
-abbrev Zero : List ℕ → Type 0
+abbrev pub Zero : List ℕ → Type 0
 Zero ws = (k : ℕ) → get_or ws k 0 ≡ 0
 
 zeros : (n : ℕ) → Zero (replicate n 0)
@@ -36,7 +36,7 @@ zero_take (suc n) (w ∷ ws) z (suc k) = zero_take n ws (λ j. z (suc j)) k
 
 -- what such a node is
 
-zero_count : (ws : List ℕ) → Zero ws → count_of ws ≡ 0
+pub zero_count : (ws : List ℕ) → Zero ws → count_of ws ≡ 0
 zero_count ws z = ap (λ (x : ℕ). x % 65536) (z 6)
 
 zero_level : (ws : List ℕ) → Zero ws → level_of ws ≡ 0
@@ -48,7 +48,7 @@ zero_low ws z = λ j. number_of (z 1 j) (z 2 j)
 zero_right : (ws : List ℕ) → Zero ws → right_of ws ≡ None
 zero_right ws z = ap (λ (x : ℕ). cond (eqb x 0) None (Some record { key = number_of (slice_index ws 3) (slice_index ws 4); node = x - 1 })) (z 5)
 
-zero_entries : (ws : List ℕ) → Zero ws → entries_of ws ≡ []
+pub zero_entries : (ws : List ℕ) → Zero ws → entries_of ws ≡ []
 zero_entries ws z = ap (λ (n : ℕ). map (entry_at ws) (range_with_len 0 n)) (zero_count ws z)
 
 zero_mark : (ws : List ℕ) → Zero ws → mark_of ws ≡ 0
@@ -56,7 +56,7 @@ zero_mark ws z = ap (λ (n : ℕ). cond (eqb n 0) 0 (level_of ws + 1)) (zero_cou
 
 -- lists of such nodes
 
-abbrev Zeros : List (List ℕ) → Type 0
+abbrev pub Zeros : List (List ℕ) → Type 0
 Zeros ns = (i : ℕ) → Zero (node_of ns i)
 
 tail : (w : List ℕ) (ns : List (List ℕ)) → Zeros (w ∷ ns) → Zeros ns
@@ -70,7 +70,7 @@ no_entries (w ∷ ns) z = (λ j. cond (eqb (level_of w) 0) (zero_entries w (z 0)
     nothing true = refl
     nothing false = refl
 
-no_weights : (ns : List (List ℕ)) → Zeros ns → sum_by weight ns ≡ 0
+pub no_weights : (ns : List (List ℕ)) → Zeros ns → sum_by weight ns ≡ 0
 no_weights [] z = refl
 no_weights (w ∷ ns) z =
     let s = sum_by-cons weight w ns in let c = zero_count w (z 0) in let e = weight_none w (omega (arith, c)) in let r = no_weights ns (tail w ns z) in omega (arith, s, e, r)
@@ -88,7 +88,7 @@ other_levels : (ns : List (List ℕ)) → Zeros ns → (i : ℕ) → slice_index
 other_levels [] z i = refl
 other_levels (w ∷ ns) z i = no_marks ns (tail w ns z) i
 
-levels_long : (ns : List (List ℕ)) → length (levels_of ns) ≡ length ns
+pub levels_long : (ns : List (List ℕ)) → length (levels_of ns) ≡ length ns
 levels_long [] = refl
 levels_long (w ∷ ns) = ap suc (length-map ns mark_of)
 

@@ -1,16 +1,18 @@
 -- An index as its callers see it.
 use Rattle.std.specs.Prelude.{◌≡◌, ℕ, ◌+◌, ◌-◌, ◌*◌}
 use Rattle.std.specs.Prelude.{◌<◌}
-use Rattle.std.specs.Prelude.{◌≤◌, Option, None, Some, List, [], ◌∷◌, ◌++◌, length}
+use Rattle.std.specs.Prelude.{◌≤◌, Option, None, Some, IsSome, List, [], ◌∷◌, ◌++◌, length, take, drop}
 use Rattle.atomic_table.specs.Seated.{TableId}
 use Rattle.key_space.specs.declared.key.Key.{Key}
-use Rattle.olfit_nodes.specs.Nodes.{Entry, Rises}
+use Rattle.olfit_nodes.specs.Nodes.{Entry, count_of, entries_of, right_of, Rises}
 use Rattle.olfit_rule.specs.declared.view.Change.TheVariants.{Add, Drop}
 use Rattle.olfit_rule.specs.declared.view.Moment.{Moment}
 use Rattle.olfit_rule.specs.declared.view.View.{View}
 use Rattle.olfit_rule.specs.Maps.{map_of, map_after}
+use Rattle.olfit_rule.specs.Tree.{node_of, IsAt}
 use Rattle.olfit_walk.specs.Looks.{entries_of_keys}
 use Rattle.olfit_change.specs.Room.{Needs}
+use Rattle.olfit_tree.specs.Build.{per_leaf}
 use Rattle.olfit_tree.specs.declared.writer.AddFault.{AddFault}
 use Rattle.olfit_tree.specs.declared.writer.AddFault.TheVariants.{Present, NodesFull}
 
@@ -60,6 +62,17 @@ HasDropped key (Some value) old new =
     (map_now old key ≡ Some value) × (new.now.log ≡ old.now.log ++ Drop key ∷ [])
     × (new.table ≡ old.table) × (new.base ≡ old.base) × (new.used ≡ old.used) × (new.inserts ≡ old.inserts)
 HasDropped key None old new = (map_now old key ≡ None) × (new ≡ old)
+
+-- The building
+
+-- Leaf i has so many of the entries of which the index was built, from its place on; each node above the
+-- leaves that has a right neighbour has 16.
+pub record IsPacked (nodes : ℕ) (w : Writing) : Type 0 where
+  pub leaves : (i : ℕ) → IsAt w.now 0 i
+      → entries_of (node_of w.now.image i) ≡ take (per_leaf nodes (length w.base))
+      (drop (i * per_leaf nodes (length w.base)) w.base)
+  pub inner : (level i : ℕ) → IsAt w.now (level + 1) i → IsSome (right_of (node_of w.now.image i))
+      → count_of (node_of w.now.image i) ≡ 16
 
 -- The end
 

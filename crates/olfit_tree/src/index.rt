@@ -1,10 +1,11 @@
-//! An index: its beginning and its end.
+//! An index: its building and its end.
 ghost use Rattle.std.specs.Prelude.{◌≡◌, ◌<◌, ◌≤◌, ◌++◌, ◌^◌, [], IfOk, IfErr, OnOk, length, max};
 ghost use Rattle.olfit_nodes.specs.Nodes.{count_of, entries_of, Rises};
 ghost use Rattle.olfit_walk.specs.Looks.{entries_of_keys};
 ghost use Rattle.olfit_change.specs.States.{IsReady, Stays};
 ghost use Rattle.olfit_tree.specs.Index.{HasAll};
 
+use crate::build::{laid_out, leaf_size, nodes_needed};
 use crate::reader::Reader;
 use crate::writer::Writer;
 use key_space::Key;
@@ -37,7 +38,50 @@ impl Model for Index {
 }
 
 impl Index {
-    ghost use Rattle.olfit_tree.specs.Index.{IsAllOf};
+    ghost use Rattle.olfit_tree.specs.Build.{nodes_over, nodes_with, per_leaf};
+    ghost use Rattle.olfit_tree.specs.Index.{IsAllOf, IsPacked};
+
+    /// An index of these entries, whose keys rise, with its writer. It has so many nodes, or as many as the
+    /// entries need with 16 in each full node. Where there are at most six entries for each node but four,
+    /// leaves get 8 of them, else 16; nodes above get 16 each, and the last node of each level gets the rest.
+    /// Without entries it is one empty leaf. Its number names it among other indexes. Out of memory: there is
+    /// no index.
+    pub fn build(
+        alloc: Global,
+        number: u16,
+        nodes: u32,
+        sorted: &[(Key, u64)],
+    ) -> Result<(Index, Writer), AllocError>
+        requires some { 0 < nodes }
+        requires rises { Rises (entries_of_keys sorted.now) }
+        requires few { length sorted.now < 2 ^ 32 }
+        ensures index { IfOk result (λ made. (made.1.table ≡ made.0.table)
+            × (made.0.nodes ≡ max nodes (nodes_over (length sorted.now)))) }
+        ensures base { IfOk result (λ made. made.1.base ≡ entries_of_keys sorted.now) }
+        ensures none { IfOk result (λ made. (made.1.now.log ≡ []) × (made.1.inserts ≡ 0)) }
+        ensures used { IfOk result (λ made. made.1.used
+            ≡ nodes_with (length sorted.now) (per_leaf nodes (length sorted.now))) }
+        ensures packed { IfOk result (λ made. IsPacked nodes made.1) }
+    {
+        let wanted = nodes as usize;
+        let nodes = wanted.max(nodes_needed(sorted.len()));
+        let (words, used) = laid_out(alloc, nodes, leaf_size(wanted, sorted.len()), sorted)?;
+        let (memory, hand) = opened(alloc, &words)?;
+        let index = Index {
+            memory,
+            nodes,
+            number,
+        };
+        let writer = Writer {
+            hand,
+            nodes,
+            used,
+            built: sorted.len() as u64,
+            inserts: 0,
+            changes: 0,
+        };
+        Ok((index, writer))
+    }
 
     /// An index of so many nodes that has no key, with its writer. Its number names it among other indexes.
     pub fn empty(alloc: Global, number: u16, nodes: u32) -> Result<(Index, Writer), AllocError>

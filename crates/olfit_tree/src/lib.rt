@@ -2,6 +2,7 @@
 //! readers that look up while it works and take no latch.
 #![tactic(auto)]
 
+mod build;
 mod index;
 mod reader;
 mod writer;
