@@ -2,6 +2,12 @@
 #![tactic(auto)]
 
 #[cfg(test)]
+mod chunks;
+#[cfg(test)]
+mod full;
+#[cfg(test)]
+mod latched;
+#[cfg(test)]
 mod threads;
 #[cfg(test)]
 mod trees;
