@@ -1,1 +1,2 @@
 mod Latches
+mod Rising

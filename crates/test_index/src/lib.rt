@@ -2,6 +2,8 @@
 #![tactic(auto)]
 
 #[cfg(test)]
+mod build;
+#[cfg(test)]
 mod chunks;
 #[cfg(test)]
 mod full;

@@ -50,7 +50,7 @@ fn fill(index: &Index, writer: &mut Writer, count: u32) -> u32
 }
 
 /// Whether a key has this value. None: whether it is absent.
-fn has(index: &Index, reader: &mut Reader, number: u64, wanted: Option<u64>) -> bool
+pub(crate) fn has(index: &Index, reader: &mut Reader, number: u64, wanted: Option<u64>) -> bool
     requires { reader.old.table ≡ index.now.table }
     ensures { reader.new.table ≡ index.now.table }
 {
@@ -61,7 +61,7 @@ fn has(index: &Index, reader: &mut Reader, number: u64, wanted: Option<u64>) -> 
 }
 
 /// How many look-ups give what they should after `fill`, of two for each key.
-fn find_all(index: &Index, reader: &mut Reader, count: u32) -> u32
+pub(crate) fn find_all(index: &Index, reader: &mut Reader, count: u32) -> u32
     requires { reader.old.table ≡ index.now.table }
     ensures { reader.new.table ≡ index.now.table }
 {
