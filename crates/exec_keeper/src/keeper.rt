@@ -2,13 +2,13 @@
 ghost use Rattle.std.specs.Prelude.{◌≡◌};
 ghost use Rattle.plain_model.specs.Calls.{is_running, op_count, runs_behind};
 
-use crate::log::{CallLog, Note};
 use crate::slots::Slot;
 use crate::store::{
     Store, try_any, try_begin, try_chunk, try_commit, try_del, try_get, try_lock, try_put,
     try_undo, try_undo_to,
 };
 use crate::switch::{Kind, Switch, Switches};
+use call_log::{CallLog, Note};
 use engine_txn::BlockCalls;
 use key_space::{Key, LockName, Mode, Range};
 use plain_model::{RowCalls, RowPiece, Stop};

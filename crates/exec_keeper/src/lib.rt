@@ -3,14 +3,12 @@
 #![tactic(auto)]
 
 mod keeper;
-mod log;
 mod runs;
 mod slots;
 mod store;
 mod switch;
 
 pub use keeper::Keeper;
-pub use log::{CallLog, Note};
 pub use runs::{block, calls_text, kept_text, plain, schema, tables_text, tried};
 pub use slots::{Change, Slot};
 pub use switch::{Kind, Switch, Switches};
