@@ -16,10 +16,11 @@ use Rattle.olfit_tree.specs.Build.{per_leaf}
 use Rattle.olfit_tree.specs.declared.writer.AddFault.{AddFault}
 use Rattle.olfit_tree.specs.declared.writer.AddFault.TheVariants.{Present, NodesFull}
 
--- an index: where its words lie, and how many nodes it has
+-- an index: where its words lie, how many nodes it has, and its number among other indexes
 pub record Lain : Type 0 where
   pub table : TableId
   pub nodes : ℕ
+  pub number : ℕ
 
 -- a writer: of which index, of which entries it was built, the present
 -- moment, how many nodes are in use, and how many keys were added

@@ -28,7 +28,11 @@ impl Model for Index {
 
     ghost Value = { Lain };
 
-    ghost view = { λ i. record { table = i.memory.shared.table_id; nodes = i.nodes } };
+    ghost view = { λ i. record {
+      table = i.memory.shared.table_id;
+      nodes = i.nodes;
+      number = i.number;
+    } };
 
     ghost invariant = { λ i. record {
       some : 0 < i.nodes;
@@ -56,7 +60,8 @@ impl Index {
         requires rises { Rises (entries_of_keys sorted.now) }
         requires few { length sorted.now < 2 ^ 32 }
         ensures index { IfOk result (λ made. (made.1.table ≡ made.0.table)
-            × (made.0.nodes ≡ max nodes (nodes_over (length sorted.now)))) }
+            × (made.0.nodes ≡ max nodes (nodes_over (length sorted.now)))
+            × (made.0.number ≡ number)) }
         ensures base { IfOk result (λ made. made.1.base ≡ entries_of_keys sorted.now) }
         ensures none { IfOk result (λ made. (made.1.now.log ≡ []) × (made.1.inserts ≡ 0)) }
         ensures used { IfOk result (λ made. made.1.used
@@ -87,7 +92,8 @@ impl Index {
     pub fn empty(alloc: Global, number: u16, nodes: u32) -> Result<(Index, Writer), AllocError>
         requires { 0 < nodes }
         ensures index { IfOk result
-            (λ made. (made.1.table ≡ made.0.table) × (made.0.nodes ≡ nodes)) }
+            (λ made. (made.1.table ≡ made.0.table) × (made.0.nodes ≡ nodes)
+            × (made.0.number ≡ number)) }
         ensures none { IfOk result (λ made. (made.1.base ≡ []) × (made.1.now.log ≡ [])
             × (made.1.inserts ≡ 0) × (made.1.used ≡ 1)) }
     {
