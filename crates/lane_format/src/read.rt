@@ -40,6 +40,7 @@ pub fn read_segment<D: Disk>(
 
     // The disk is only read. A fault names the file, and comes where one call of the disk failed.
     ensures only_reads { OnlyReads D.Disk disk.old disk.new }
+    ensures calls { D.calls disk.new ≡ D.calls disk.old }
     ensures disk { (file : FileName) → result ≡ Err (LaneReadFault.Disk file) →
         (file ≡ FileName.Lane lane odd) × (D.faults disk.new ≡ one_more (D.faults disk.old)) }
     ensures damaged { (file : FileName) (at : ℕ) → result ≡ Err (LaneReadFault.Damaged file at) →
@@ -65,6 +66,7 @@ fn read<D: Disk>(
     ensures segment { ForSome (D.content disk.old) (λ bytes.
         IfSome (found_as result) (lane_reads odd lane bytes)) }
     ensures only_reads { OnlyReads D.Disk disk.old disk.new }
+    ensures calls { D.calls disk.new ≡ D.calls disk.old }
     ensures cause { StopHasCause (D.faults disk.old) (D.faults disk.new) result }
 {
     let size = disk.size()?;
@@ -85,6 +87,7 @@ fn is_open<D: Disk>(disk: &mut D, size: u64) -> Result<bool, Failed>
     ensures gate { IfOk result (λ is_open. ForSome (D.content disk.old) (λ bytes.
         IsTrue is_open ↔ IsOpen bytes)) }
     ensures only_reads { OnlyReads D.Disk disk.old disk.new }
+    ensures calls { D.calls disk.new ≡ D.calls disk.old }
     ensures cause { HasCause (D.faults disk.old) (D.faults disk.new) result }
 {
     if size == 0 {
@@ -104,6 +107,7 @@ fn read_head<D: Disk>(disk: &mut D, size: u64, odd: bool, lane: u16) -> Result<u
     ensures damaged { (at : ℕ) → result ≡ Err (ReadStop.Damaged at) →
         ForSome (D.content disk.old) (λ bytes. IsDamaged odd lane bytes at) }
     ensures only_reads { OnlyReads D.Disk disk.old disk.new }
+    ensures calls { D.calls disk.new ≡ D.calls disk.old }
     ensures cause { StopHasCause (D.faults disk.old) (D.faults disk.new) result }
 {
     if size < FIRST_GATE {
@@ -139,6 +143,7 @@ fn read_batches<D: Disk>(alloc: Global, disk: &mut D, size: u64) -> Result<Vec<B
         ForSome (D.content disk.old) (λ bytes. (batches : List Batch)
         × ReadTo bytes batches at × LacksBatch (drop at bytes)) }
     ensures only_reads { OnlyReads D.Disk disk.old disk.new }
+    ensures calls { D.calls disk.new ≡ D.calls disk.old }
     ensures cause { StopHasCause (D.faults disk.old) (D.faults disk.new) result }
 {
     let mut window = Window::new();
@@ -172,6 +177,7 @@ fn read_batch<D: Disk>(
     ensures damaged { IfErr result (StopsAt (D.content disk.old) gate) }
     ensures window { OnOk result (IsWindow (D.content disk.old) window.new) }
     ensures only_reads { OnlyReads D.Disk disk.old disk.new }
+    ensures calls { D.calls disk.new ≡ D.calls disk.old }
     ensures cause { StopHasCause (D.faults disk.old) (D.faults disk.new) result }
 {
     if !has_open_gate(disk, window, size, gate)? {
@@ -202,6 +208,7 @@ fn has_open_gate<D: Disk>(
     ensures inside { IfOk result (λ is_open. IsTrue is_open → gate + 1 ≤ size) }
     ensures window { OnOk result (IsWindow (D.content disk.old) window.new) }
     ensures only_reads { OnlyReads D.Disk disk.old disk.new }
+    ensures calls { D.calls disk.new ≡ D.calls disk.old }
     ensures cause { HasCause (D.faults disk.old) (D.faults disk.new) result }
 {
     if gate == size {
@@ -228,6 +235,7 @@ fn body_len<D: Disk>(
     ensures damaged { IfErr result (StopsAt (D.content disk.old) gate) }
     ensures window { OnOk result (IsWindow (D.content disk.old) window.new) }
     ensures only_reads { OnlyReads D.Disk disk.old disk.new }
+    ensures calls { D.calls disk.new ≡ D.calls disk.old }
     ensures cause { StopHasCause (D.faults disk.old) (D.faults disk.new) result }
 {
     if size - gate < BATCH_HEAD {

@@ -47,6 +47,7 @@ impl Window {
         ensures bytes { Reads (D.content disk.old) at result into.new }
         ensures window { OnOk result (IsWindow (D.content disk.old) self.new) }
         ensures only_reads { OnlyReads D.Disk disk.old disk.new }
+        ensures calls { D.calls disk.new ≡ D.calls disk.old }
         ensures cause { HasCause (D.faults disk.old) (D.faults disk.new) result }
     {
         let n = into.len();
@@ -68,6 +69,7 @@ impl Window {
         ensures covers { OnOk result (Covers at n self.new) }
         ensures window { OnOk result (IsWindow (D.content disk.old) self.new) }
         ensures only_reads { OnlyReads D.Disk disk.old disk.new }
+        ensures calls { D.calls disk.new ≡ D.calls disk.old }
         ensures cause { HasCause (D.faults disk.old) (D.faults disk.new) result }
     {
         if self.at <= at && at - self.at + n as u64 <= self.len as u64 {
@@ -83,6 +85,7 @@ impl Window {
         ensures covers { OnOk result ((n : ℕ) → at + n ≤ size → n ≤ PIECE → Covers at n self.new) }
         ensures window { OnOk result (IsWindow (D.content disk.old) self.new) }
         ensures only_reads { OnlyReads D.Disk disk.old disk.new }
+        ensures calls { D.calls disk.new ≡ D.calls disk.old }
         ensures cause { HasCause (D.faults disk.old) (D.faults disk.new) result }
     {
         let len = (size - at).min(PIECE as u64) as usize;
