@@ -1,6 +1,9 @@
 // The rows of a table by their keys.
 ghost use Rattle.std.specs.Prelude.{◌≡◌, ◌==◌, ◌&&◌, ℕ, if◌then◌else◌, Some, None, is_some, is_none, IfOk};
 ghost use Rattle.std.specs.Prelude.{OnOk, OnErr, IsSome};
+ghost use Rattle.std.specs.List.Sorted.{IsStrictlySortedBy};
+ghost use Rattle.std.specs.Map.{keys_of};
+ghost use Rattle.std.specs.Ordering.{nat_cmp};
 ghost use Rattle.key_space.specs.Ranges.{IsNotEmpty};
 ghost use Rattle.row_lists.specs.Held.{at_key, entries_between, row_of, rows_of, stood};
 
@@ -77,8 +80,9 @@ impl RowList {
     /// the copies.
     pub fn rows_between(&self, alloc: Global, range: Range) -> Result<Items<Row>, OutOfMemory>
         requires { IsNotEmpty range }
-        ensures { IfOk result (λ rows. rows
+        ensures rows { IfOk result (λ rows. rows
             ≡ rows_of (entries_between self.now range.lo.number range.hi.number)) }
+        ensures rising { IsStrictlySortedBy nat_cmp (keys_of self.now) }
     {
         let mut rows = Vec::new(alloc);
         for (_, row) in self.rows.range(range.lo.number..=range.hi.number) {

@@ -1,0 +1,9 @@
+pub mod Chunks
+pub mod Ends
+pub mod Forcing
+pub mod Moments
+pub mod Numbers
+pub mod Operations
+pub mod Running
+pub mod States
+pub mod Tables

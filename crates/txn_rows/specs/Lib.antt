@@ -1,0 +1,3 @@
+pub mod Forces
+pub mod Rows
+pub mod Steps
