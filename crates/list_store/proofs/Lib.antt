@@ -1,0 +1,9 @@
+pub mod Faulting
+pub mod Forcing
+pub mod Fronts
+pub mod Lanes
+pub mod OneReading
+pub mod Pasts
+pub mod Playing
+pub mod SomeReading
+pub mod Storing
