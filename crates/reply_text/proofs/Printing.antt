@@ -1,8 +1,8 @@
 -- What a push brings to the sink.
-use Rattle.std.proofs.Common.{◌≡◌, ℕ, true, false, List, [], ◌∷◌, ◌++◌, take, drop, Option, Some, None, MatchOption, Result, Ok, Err, is_err, refl, sym, ◌∙◌, ap, subst, arith, append_assoc, take-append-drop}
+use Rattle.std.proofs.Common.{◌≡◌, ℕ, true, false, List, [], ◌∷◌, ◌++◌, take, drop, Option, Some, None, MatchOption, Result, Ok, Err, is_err, refl, sym, ◌∙◌, ap, subst, append_assoc, take-append-drop}
 use Rattle.std.proofs.lemmas.List.{append-nil}
 use Rattle.std.specs.Option.{option_map}
-use Rattle.causes.specs.Causes.{HasCause}
+use Rattle.causes.specs.Causes.{HasCause, one_more}
 use Rattle.io_edge.specs.Pushing.{Pushes}
 use Rattle.reply_text.specs.Printed.{IsPrinted}
 use Rattle.reply_text.specs.declared.printer.Printer.{Printer}
@@ -16,8 +16,8 @@ module _ (start : Option (List ℕ)) (before : ℕ) (text : List ℕ) where
     text_is = append-nil text ∙ is.text_is;
     took = is.took;
     waits = λ works. absurd (let both : true ≡ false = sym stays ∙ works in cc);
+    still = λ works. absurd (let both : true ≡ false = sym stays ∙ works in cc);
     cause = λ _. is.cause failed;
-    later = is.later;
   }
 
   front_taken : (o taken' taken : Option (List ℕ)) (front bytes : List ℕ) → taken ≡ option_map (λ t. t ++ front) o → MatchOption taken (taken' ≡ None) (λ t. (n : ℕ) × (taken' ≡ Some (t ++ take n bytes)))
@@ -40,8 +40,8 @@ module _ (start : Option (List ℕ)) (before : ℕ) (text : List ℕ) where
     text_is = append-nil text ∙ is.text_is ∙ ap (λ (l : List ℕ). is.front ++ l) (is.waits works ∙ sym waited) ∙ sym (append-nil (is.front ++ bytes));
     took = all_taken start taken' taken is.front bytes is.took push;
     waits = λ _. sym empty;
+    still = λ _. cause.still ∙ is.still works;
     cause = λ fails. absurd (let both : true ≡ false = sym fails ∙ failed in cc);
-    later = omega (arith, is.later, cause.later);
   }
   pushed (Err e) p q bytes taken taken' now now' works waited empty failed push cause is =
       let more = front_taken start taken' taken is.front bytes is.took push in
@@ -51,8 +51,8 @@ module _ (start : Option (List ℕ)) (before : ℕ) (text : List ℕ) where
         text_is = append-nil text ∙ is.text_is ∙ ap (λ (l : List ℕ). is.front ++ l) (is.waits works ∙ sym waited ∙ more.2) ∙ sym (append_assoc is.front more.0 more.1);
         took = more.3;
         waits = λ fails. absurd (let both : true ≡ false = sym failed ∙ fails in cc);
-        cause = λ _. omega (arith, is.later, cause.failed);
-        later = omega (arith, is.later, cause.later);
+        still = λ fails. absurd (let both : true ≡ false = sym failed ∙ fails in cc);
+        cause = λ _. cause.failed ∙ ap one_more (is.still works);
       }
 
 -- a printer that begins has printed nothing
@@ -63,8 +63,8 @@ begins p taken now works empty = record {
   text_is = refl;
   took = nothing_more taken;
   waits = λ _. sym empty;
+  still = λ _. refl;
   cause = λ fails. absurd (let both : true ≡ false = sym fails ∙ works in cc);
-  later = omega arith;
 }
   where
     nothing_more : (o : Option (List ℕ)) → o ≡ option_map (λ t. t ++ []) o
@@ -79,6 +79,6 @@ byte_printed start before text b p q taken now items failed is = record {
   text_is = ap (λ (l : List ℕ). l ++ b ∷ []) is.text_is ∙ append_assoc is.front is.rest (b ∷ []);
   took = is.took;
   waits = λ works. ap (λ (l : List ℕ). l ++ b ∷ []) (is.waits (sym failed ∙ works)) ∙ sym items;
+  still = λ works. is.still (sym failed ∙ works);
   cause = λ fails. is.cause (sym failed ∙ fails);
-  later = is.later;
 }

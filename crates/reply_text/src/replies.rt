@@ -76,7 +76,8 @@ fn print_count<K: Sink>(word: &str, number: u64, printer: &mut Printer, sink: &m
     printer.print(sink, "\n");
 }
 
-/// Brings the lines of `reply` to the sink: it took them all, or it failed and took a front of them.
+/// Brings the lines of `reply` to the sink: it took them all, or one push failed, the last, and it took a
+/// front of them.
 pub fn reply_into<K: Sink>(sink: &mut K, reply: &Reply) -> Result<(), Failed>
     ensures { EndsPrinted (K.taken sink.old) (K.faults sink.old)
         (reply_text reply.now) result (K.taken sink.new) (K.faults sink.new) }

@@ -11,8 +11,8 @@ returns-then-failed g c start before text is =
       text_is = sym (append-nil text) ∙ flushed.text_is;
       took = flushed.took;
       whole = tt;
+      still = tt;
       failed = flushed.cause c.if-failed.true;
-      later = flushed.later;
     }
 
 pub returns-else-failed : goal.returns-else-failed
@@ -24,6 +24,6 @@ returns-else-failed g c start before text is =
       text_is = sym (append-nil text) ∙ flushed.text_is;
       took = flushed.took;
       whole = flushed.waits c.if-failed.false ∙ c.flush.ensures.empty;
+      still = flushed.still c.if-failed.false;
       failed = tt;
-      later = flushed.later;
     }
