@@ -1,18 +1,7 @@
-pub mod Numbers
-pub mod Words
-pub mod Regroup
-pub mod Printing
-pub mod Showing
-pub mod InputSoFar
-pub mod Faults
-pub mod Lines
-pub mod Batches
-pub mod Pairs
-pub mod Pieces
-pub mod Securing
-pub mod Lasting
-pub mod Ending
-pub mod Answering
-pub mod Statuses
-pub mod Readings
-pub mod Walking
+mod InputSoFar
+mod LeadingLaws
+mod ReadyLaws
+mod RunningLaws
+mod Showing
+mod Statuses
+mod Words

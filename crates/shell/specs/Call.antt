@@ -1,23 +1,26 @@
 -- Which words ask for a run, and how a call ends and why.
-use Rattle.std.specs.Prelude.{◌≡◌, ◌≢◌, ◌⊎◌, ℕ, List, [], ◌∷◌, take, codes, Option, None}
-use Rattle.std.specs.Option.{option_map, ForSome}
+use Rattle.std.specs.Prelude.{◌≡◌, ◌≢◌, ◌⊎◌, ℕ, List, [], ◌∷◌, map, take, codes}
+use Rattle.std.specs.List.{flat_map}
+use Rattle.std.specs.Option.{ForSome}
 use Rattle.io_edge.specs.declared.source.Source as source
 use Rattle.io_edge.specs.declared.sink.Sink as sink
 use Rattle.disk_core.specs.declared.disk.Disk as disk
+use Rattle.row_types.specs.declared.definition.TableDef.{TableDef}
+use Rattle.script.specs.declared.sections.Script.{Script}
+use Rattle.script.specs.Script.{IsNoScript, IsScript}
+use Rattle.reply_text.specs.declared.last.Fault.{Fault}
+use Rattle.reply_text.specs.declared.last.Fault.TheVariants as faults
+use Rattle.list_store.specs.Log.{DamagedAt, log_reads}
+use Rattle.section_runs.specs.declared.section.SectionRun.{SectionRun}
+use Rattle.section_runs.specs.declared.section.Halt.TheVariants.{Done}
+use Rattle.section_runs.specs.Sections.{halt_of}
 use Rattle.shell.specs.Files.{Outside}
 use Rattle.shell.specs.Input.{FailsWithin, ReadsWithin, WasRead, read_limit}
-use Rattle.shell.specs.Log.{BeginsWith, Damaged as damaged, Holding, log_reads}
-use Rattle.shell.specs.Kv.{Pairs, pairs_after_all, replies_to}
-use Rattle.shell.specs.Outcome.{OutcomeView, shows_none}
-use Rattle.shell.specs.Printed.{Took}
-use Rattle.shell.specs.Running.{Runs}
-use Rattle.shell.specs.Script.{IsScript, statements_in}
-use Rattle.shell.specs.Shown.{Shows}
-use Rattle.shell.specs.Survival.{IsQuiet, Survives}
-use Rattle.shell.specs.Text.{shown_text}
-use Rattle.shell.specs.declared.statement.KvStatement.{KvStatement}
-use Rattle.shell.specs.declared.end.CallEnd.{CallEnd}
-use Rattle.shell.specs.declared.end.CallEnd.TheVariants.{Usage, OutOfMemory, Source, Script}
+use Rattle.shell.specs.Outcome.{OutcomeView, fault_alone}
+use Rattle.shell.specs.Ready.{AreReady}
+use Rattle.shell.specs.Running.{Runs, SectionsRan}
+use Rattle.shell.specs.Shown.{Shows, Took}
+use Rattle.shell.specs.Text.{section_text}
 
 -- a word that names a folder isn't empty and doesn't begin with a minus
 abbrev pub NamesFolder : List ℕ → Type 0
@@ -30,20 +33,18 @@ IsRun words = (folder : List ℕ) × (words ≡ codes "run" ∷ folder ∷ []) �
 
 module _ {S : Type 0} (s : source.Ghosts S) where
   -- what is read of the source is this script
-  abbrev pub GivesScript : S → Option (List KvStatement) → Type 0
+  abbrev pub GivesScript : S → Script → Type 0
   GivesScript old script = ForSome (s.content old) (λ content. IsScript (take read_limit content.left) script)
 
-  -- what is read of the source is no script
-  abbrev pub GivesNoScript : S → Type 0
-  GivesNoScript old =
-      ForSome (s.content old) (λ content. (script : Option (List KvStatement))
-      → ¬ (IsScript (take read_limit content.left) script))
+  -- what is read of the source is no script, and this is the first place at which it isn't
+  abbrev pub GivesNoScript : S → ℕ → Type 0
+  GivesNoScript old at = ForSome (s.content old) (λ content. IsNoScript (take read_limit content.left) at)
 
-  -- No script was read: the source failed, memory ran out, or what was read is the text of no script.
-  abbrev pub NoScript : CallEnd → S → S → Type 0
-  NoScript Source old new = FailsWithin s read_limit old new
-  NoScript OutOfMemory old new = ReadsWithin s read_limit old new
-  NoScript Script old new = WasRead s old new × GivesNoScript old
+  -- No script was read: the source failed, memory ran out, or what was read is no script.
+  abbrev pub NoScript : Fault → S → S → Type 0
+  NoScript faults.Source old new = FailsWithin s read_limit old new
+  NoScript faults.Memory old new = ReadsWithin s read_limit old new
+  NoScript (faults.Script at) old new = WasRead s old new × GivesNoScript old at
   NoScript other old new = ⊥
 
 -- The words ask for no run: nothing was done.
@@ -51,27 +52,25 @@ pub record WrongWords {S D : Type 0} (words : List (List ℕ)) (old new : Outsid
     (view : OutcomeView) : Type 0 where
   pub asks_nothing : ¬ (IsRun words)
   pub untouched : new ≡ old
-  pub outcome : view ≡ shows_none Usage
+  pub outcome : view ≡ fault_alone faults.Usage
 
 module _ {S D : Type 0} (s : source.Ghosts S) where
   -- The words ask for a run, but no script was read: nothing else was done.
   pub record Unread (words : List (List ℕ)) (old new : Outside S D) (view : OutcomeView) : Type 0 where
     pub asks : IsRun words
-    pub why : NoScript s view.end old.source new.source
+    pub fault : Fault
+    pub why : NoScript s fault old.source new.source
     pub untouched : new.disk ≡ old.disk
-    pub nothing : view.shown ≡ None
+    pub outcome : view ≡ fault_alone fault
 
 module _ {S D : Type 0} (s : source.Ghosts S) (d : disk.Ghosts D) where
-  -- The words ask for a run, and the script that was read was run over the log file: how that ended, and what
-  -- a crash leaves if nothing was pending at first.
+  -- The words ask for a run, and the script that was read was run over the log file.
   pub record ScriptRan (words : List (List ℕ)) (old new : Outside S D) (view : OutcomeView) : Type 0 where
     pub asks : IsRun words
     pub read : WasRead s old.source new.source
-    pub script : Option (List KvStatement)
+    pub script : Script
     pub is : GivesScript s old.source script
-    pub runs : Runs d script old.disk view.end view.shown new.disk
-    pub survives : (bytes : List ℕ) → IsQuiet d old.disk bytes
-        → Survives d bytes script old.disk view.end view.shown new.disk
+    pub runs : Runs d script old.disk view new.disk
 
   -- the reason of an end: the words ask for no run, no script was read, or one was run
   abbrev pub Explains : List (List ℕ) → Outside S D → Outside S D → OutcomeView → Type 0
@@ -86,20 +85,33 @@ module _ {S K D : Type 0} (s : source.Ghosts S) (k : sink.Ghosts K) (d : disk.Gh
     pub why : Explains s d words old new view
     pub shows : Shows k view old_sink new_sink status
 
-  -- Status 0: the words ask for a run, all of a script was read, the sink took the replies of its statements
-  -- over the pairs that the log file began with, in order, and the file reads as the pairs that they leave.
+  -- Status 0: the words ask for a run, all of a script was read, every block of its sections has replies, and
+  -- the sink took the sections with these.
   pub record AllDone (words : List (List ℕ)) (old new : Outside S D) (old_sink new_sink : K) : Type 0 where
     pub asks : IsRun words
     pub read : WasRead s old.source new.source
-    pub script : Option (List KvStatement)
+    pub script : Script
     pub is : GivesScript s old.source script
-    pub pairs : Pairs
-    pub opened : ForSome (d.content old.disk) (BeginsWith pairs)
-    pub took : Took k (shown_text (option_map (replies_to pairs) script)) old_sink new_sink
-    pub kept : ForSome (d.content new.disk)
-        (λ bytes. log_reads bytes (Holding (pairs_after_all pairs (statements_in script))))
+    pub defs : List TableDef
+    pub shown : List SectionRun
+    pub ready : AreReady script.setup script.sessions defs (map (λ run. run.section) shown)
+    pub whole : halt_of shown ≡ Done
+    pub ran : SectionsRan d defs old.disk shown new.disk
+    pub took : Took k (flat_map section_text shown) old_sink new_sink
 
--- Status 8: the log file is open but isn't a log, and it stays as it was.
-pub record StaysDamaged {D : Type 0} (d : disk.Ghosts D) (old new : D) : Type 0 where
-  pub reads : ForSome (d.content old) (λ bytes. log_reads bytes damaged)
-  pub same : d.content new ≡ d.content old
+module _ {D : Type 0} (d : disk.Ghosts D) where
+  -- no call has changed the disk, and its bytes are the same
+  pub record IsUntouched (old new : D) : Type 0 where
+    pub same : d.content new ≡ d.content old
+    pub calls : d.calls new ≡ d.calls old
+
+  -- Status 8: the log file is open but isn't a log of the tables that the setup asks for.
+  pub record StaysDamaged (old new : D) : Type 0 where
+    pub defs : List TableDef
+    pub at : ℕ
+    pub reads : ForSome (d.content old) (λ bytes. log_reads defs bytes (DamagedAt at))
+    pub untouched : IsUntouched old new
+
+-- the statuses of a call that opened no log file, or found it damaged
+abbrev pub LeavesFile : ℕ → Type 0
+LeavesFile status = (status ≡ 2) ⊎ ((status ≡ 5) ⊎ ((status ≡ 7) ⊎ (status ≡ 8)))

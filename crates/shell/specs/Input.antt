@@ -4,7 +4,7 @@ use Rattle.std.specs.Option.{option_map, ForSome}
 use Rattle.io_edge.specs.Content.{after_giving}
 use Rattle.io_edge.specs.Runs.{ReadsOn, ReadsToFault}
 use Rattle.io_edge.specs.declared.source.Source.{Ghosts}
-use Rattle.shell.specs.Script.{max_script}
+use Rattle.script.specs.Script.{max_script}
 use Rattle.shell.specs.declared.input.InputFault.{InputFault}
 use Rattle.shell.specs.declared.input.InputFault.TheVariants.{Source, OutOfMemory}
 

@@ -1,56 +1,88 @@
--- How a run of a script over the log file ends, what it shows and why.
-use Rattle.std.specs.Prelude.{◌≡◌, ◌⊎◌, ℕ, ◌-◌, ◌<◌, List, ◌++◌, length, take, replicate, Option, None, Some}
-use Rattle.std.specs.Option.{option_map, ForSome}
-use Rattle.causes.specs.Causes.{one_more}
+-- How a run of a script over the log file ends, what it shows and why, and what a crash leaves of it.
+use Rattle.std.specs.Prelude.{◌≡◌, ◌⊎◌, ℕ, List, ◌∷◌, ◌++◌, map, Option, None, Some}
+use Rattle.std.specs.List.{AllByRecursion}
+use Rattle.std.specs.Option.{ForSome}
+use Rattle.disk_core.specs.Moments.{LeavesNow, LeavesOnly}
 use Rattle.disk_core.specs.declared.disk.Disk.{Ghosts}
 use Rattle.lane_format.specs.Writer.{even_file}
-use Rattle.shell.specs.Log.{BeginsWith, IsDamaged, IsLogOf}
-use Rattle.shell.specs.Kv.{Pairs, pairs_after_all, replies_to}
-use Rattle.shell.specs.Script.{statements_in}
-use Rattle.shell.specs.declared.statement.KvStatement.{KvStatement}
-use Rattle.shell.specs.declared.reply.Reply.{Reply}
-use Rattle.shell.specs.declared.reply.Reply.TheVariants.{Stopped, StoppedMemory}
-use Rattle.shell.specs.declared.end.CallEnd.{CallEnd}
-use Rattle.shell.specs.declared.end.CallEnd.TheVariants.{Done, OutOfMemory, Disk, Damaged}
+use Rattle.row_types.specs.declared.definition.TableDef.{TableDef}
+use Rattle.row_types.specs.Schema.{IsSchema}
+use Rattle.row_types.specs.Tables.{Tables}
+use Rattle.script.specs.declared.sections.Script.{Script}
+use Rattle.reply_text.specs.declared.last.Fault.{Fault}
+use Rattle.reply_text.specs.declared.last.Fault.TheVariants.{Disk, Memory, Damaged as DamagedFault}
+use Rattle.reply_text.specs.declared.last.Place.TheVariants.{File}
+use Rattle.list_store.specs.declared.fault.OpenFault.{OpenFault}
+use Rattle.list_store.specs.declared.fault.OpenFault.TheVariants as opening
+use Rattle.list_store.specs.Keeping.{IsQuiet}
+use Rattle.list_store.specs.Log.{BeginsWith}
+use Rattle.list_store.specs.Opening.{CannotOpen, LeftByOpening}
+use Rattle.section_runs.specs.declared.section.ReadySection.{ReadySection}
+use Rattle.section_runs.specs.declared.section.SectionRun.{SectionRun}
+use Rattle.section_runs.specs.declared.section.Halt.{Halt}
+use Rattle.section_runs.specs.declared.section.Halt.TheVariants.{Done, Stopped, OutOfMemory}
+use Rattle.section_runs.specs.Lasting.{AreCaused, AreFlying}
+use Rattle.section_runs.specs.Sections.{AreStopped, IsAnswered, all_said, faults_after, halt_of, stopped_in}
+use Rattle.section_runs.specs.Trail.{BeginsAmong, Leads, last_of}
+use Rattle.shell.specs.Outcome.{OutcomeView, fault_alone}
+use Rattle.shell.specs.Ready.{AreReady}
 
--- The run stopped at a statement: those before it have their replies, and from it on each has this word.
-pub record RunStops (pairs : Pairs) (script : Option (List KvStatement)) (word : Reply)
-    (shown : Option (List Reply)) : Type 0 where
-  pub statements : List KvStatement
-  pub session : script ≡ Some statements
-  pub place : ℕ
-  pub within : place < length statements
-  pub replies : shown
-      ≡ Some (take place (replies_to pairs statements) ++ replicate (length statements - place) word)
+-- the fault of a log file that isn't opened
+abbrev pub fault_opening : OpenFault → Fault
+fault_opening (opening.Disk file) = Disk file
+fault_opening (opening.Damaged file at) = DamagedFault (File file at)
+fault_opening opening.OutOfMemory = Memory
 
--- All statements have their replies over the pairs, and the log file holds the pairs that they leave.
-pub record Finishes (pairs : Pairs) (script : Option (List KvStatement)) (shown : Option (List Reply))
-    (now : Option (List ℕ)) : Type 0 where
-  pub replies : shown ≡ option_map (replies_to pairs) script
-  pub kept : ForSome now (IsLogOf (pairs_after_all pairs (statements_in script)))
-
--- Memory ran out at a statement: the log file holds the pairs that those before it leave.
-pub record RunsShort (pairs : Pairs) (script : Option (List KvStatement)) (shown : Option (List Reply))
-    (now : Option (List ℕ)) : Type 0 where
-  pub stops : RunStops pairs script StoppedMemory shown
-  pub kept : ForSome now (IsLogOf (pairs_after_all pairs (take stops.place stops.statements)))
+-- the fault of sections that were stopped
+abbrev pub fault_halting : Halt → Option Fault
+fault_halting Done = None
+fault_halting Stopped = Some (Disk (even_file 0))
+fault_halting OutOfMemory = Some Memory
 
 module _ {D : Type 0} (d : Ghosts D) where
-  -- A script was run over a log file: how that ended, what it shows, and what it made of the file.
-  abbrev pub Runs : Option (List KvStatement) → D → CallEnd → Option (List Reply) → D → Type 0
-  Runs script old Done shown new =
-      (pairs : Pairs) × ForSome (d.content old) (BeginsWith pairs)
-      × Finishes pairs script shown (d.content new) × (d.faults new ≡ d.faults old)
-  Runs script old (Disk file) shown new =
-      (file ≡ even_file 0) × (d.faults new ≡ one_more (d.faults old))
-      × ((shown ≡ None)
-      ⊎ ((pairs : Pairs) × ForSome (d.content old) (BeginsWith pairs)
-      × RunStops pairs script Stopped shown))
-  Runs script old OutOfMemory shown new =
-      (((shown ≡ None) × (d.content new ≡ d.content old))
-      ⊎ ((pairs : Pairs) × ForSome (d.content old) (BeginsWith pairs)
-      × RunsShort pairs script shown (d.content new))) × (d.faults new ≡ d.faults old)
-  Runs script old Damaged shown new =
-      ForSome (d.content old) IsDamaged × (shown ≡ None) × (d.content new ≡ d.content old)
-      × (d.faults new ≡ d.faults old)
-  Runs script old other shown new = ⊥
+  -- The blocks of the sections led over this trail from the tables that the file held: what a crash at any
+  -- moment since entry leaves, and one now.
+  pub record Survives (defs : List TableDef) (first : Tables) (trail : List Tables)
+      (shown : List SectionRun) (old new : D) : Type 0 where
+    -- the tables that may have been on their way to the disk: at most those that the stopped block leads to
+    pub flying : List Tables
+    pub are : AreFlying (stopped_in shown) (last_of first trail) flying
+    pub moments : (bytes : List ℕ) → IsQuiet d old bytes
+        → LeavesOnly d old new (λ image. LeftByOpening defs bytes image
+        ⊎ BeginsAmong defs (first ∷ (trail ++ flying)) image)
+    pub kept : LeavesNow d new (BeginsAmong defs (last_of first trail ∷ flying))
+
+  -- The sections were run over the tables that the file held: each block with replies leads from one element
+  -- of the trail to the next.
+  pub record SectionsRan (defs : List TableDef) (old : D) (shown : List SectionRun) (new : D) : Type 0 where
+    pub schema : IsSchema defs
+    pub answered : AllByRecursion IsAnswered shown
+    pub stopped : AreStopped shown
+    pub faults : d.faults new ≡ faults_after (halt_of shown) (d.faults old)
+    pub first : Tables
+    pub opened : ForSome (d.content old) (BeginsWith defs first)
+    pub trail : List Tables
+    pub statements : Leads first (all_said shown) trail
+    pub causes : AreCaused defs first (all_said shown) trail
+    pub survives : (bytes : List ℕ) → IsQuiet d old bytes → Survives defs first trail shown old new
+
+  -- the log file wasn't opened, for this reason
+  abbrev pub IsUnopened : List TableDef → D → OutcomeView → D → Type 0
+  IsUnopened defs old view new =
+      (fault : OpenFault) × CannotOpen d defs old fault new × (view ≡ fault_alone (fault_opening fault))
+
+  -- the file was opened, the sections were run, and their answers are shown
+  abbrev pub IsRun : List TableDef → List ReadySection → D → OutcomeView → D → Type 0
+  IsRun defs sections old view new =
+      (shown : List SectionRun) × (map (λ run. run.section) shown ≡ sections)
+      × SectionsRan defs old shown new
+      × (view ≡ record { fault = fault_halting (halt_of shown); shown = Some shown })
+
+  -- A script was run over the log file. Memory ran out before the file was opened; or the tables that the
+  -- setup asks for are these, and it wasn't opened, or the sections were run.
+  abbrev pub Runs : Script → D → OutcomeView → D → Type 0
+  Runs script old view new =
+      ((view ≡ fault_alone Memory) × (new ≡ old))
+      ⊎ ((defs : List TableDef) × (sections : List ReadySection)
+      × AreReady script.setup script.sessions defs sections
+      × (IsUnopened defs old view new ⊎ IsRun defs sections old view new))

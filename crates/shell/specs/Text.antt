@@ -1,60 +1,56 @@
--- What is printed: the replies under the header of their session, and a last line that reports a fault.
-use Rattle.std.specs.Prelude.{ℕ, true, false, List, [], ◌++◌, codes, Option, None, Some}
-use Rattle.std.specs.Fmt.{decimal, signed_decimal}
+-- What is printed: the sections with their replies, and a last line that reports a fault.
+use Rattle.std.specs.Prelude.{ℕ, List, [], ◌++◌, codes, Option, None, Some}
 use Rattle.std.specs.List.{flat_map}
-use Rattle.shell.specs.Log.{last_end}
+use Rattle.reply_text.specs.declared.last.Fault.{Fault}
+use Rattle.reply_text.specs.declared.last.Fault.TheVariants as faults
+use Rattle.reply_text.specs.Text.{header_line, last_line, reply_text}
+use Rattle.section_runs.specs.declared.section.SectionRun.{SectionRun}
+use Rattle.section_runs.specs.declared.section.Halt.{Halt}
+use Rattle.section_runs.specs.declared.section.Halt.TheVariants.{Done, Stopped, OutOfMemory}
+use Rattle.section_runs.specs.Sections.{left_in}
 use Rattle.shell.specs.Outcome.{OutcomeView}
-use Rattle.disk_core.specs.declared.store.FileName.{FileName}
-use Rattle.disk_core.specs.declared.store.FileName.TheVariants.{AreaA, AreaB, Lane}
-use Rattle.shell.specs.declared.reply.Reply.{Reply}
-use Rattle.shell.specs.declared.reply.Reply.TheVariants.{Inserted, Duplicate, LogFull, Found, Missing}
-use Rattle.shell.specs.declared.reply.Reply.TheVariants.{Stopped, StoppedMemory}
-use Rattle.shell.specs.declared.end.CallEnd.{CallEnd}
-use Rattle.shell.specs.declared.end.CallEnd.TheVariants.{Done, Usage, OutOfMemory, Disk, Source, Script}
-use Rattle.shell.specs.declared.end.CallEnd.TheVariants.{Damaged}
 
--- the lines of a reply
-abbrev pub reply_text : Reply → List ℕ
-reply_text Inserted = codes "ok 1\n"
-reply_text (Duplicate key) = codes "refused DUPLICATE " ++ signed_decimal key ++ codes "\n"
-reply_text (LogFull bytes) = codes "refused LOG FULL " ++ decimal bytes ++ codes " " ++ decimal last_end ++ codes "\n"
-reply_text (Found key value) = signed_decimal key ++ codes ", " ++ signed_decimal value ++ codes "\nrows 1\n"
-reply_text Missing = codes "rows 0\n"
-reply_text Stopped = codes "stopped\n"
-reply_text StoppedMemory = codes "stopped MEMORY\n"
+-- the line of a block that has no replies
+abbrev pub halt_line : Halt → List ℕ
+halt_line Done = []
+halt_line Stopped = codes "stopped\n"
+halt_line OutOfMemory = codes "stopped MEMORY\n"
 
--- the session's header and its replies, where the input has a session that was begun
-abbrev pub shown_text : Option (List Reply) → List ℕ
+-- A section: its header, the replies to its leading statements, those to the
+-- blocks behind them, and a line for each block that has none.
+abbrev pub section_text : SectionRun → List ℕ
+section_text run =
+    header_line run.section.number
+    ++ (flat_map reply_text run.section.leads
+    ++ (flat_map (flat_map reply_text) run.said ++ flat_map (λ _. halt_line run.halt) (left_in run)))
+
+-- the sections, where they were started
+abbrev pub shown_text : Option (List SectionRun) → List ℕ
 shown_text None = []
-shown_text (Some replies) = codes "session 1\n" ++ flat_map reply_text replies
+shown_text (Some runs) = flat_map section_text runs
 
--- how a file is called
-abbrev pub file_text : FileName → List ℕ
-file_text AreaA = codes "area.a"
-file_text AreaB = codes "area.b"
-file_text (Lane lane false) = codes "lane" ++ decimal lane ++ codes ".even"
-file_text (Lane lane true) = codes "lane" ++ decimal lane ++ codes ".odd"
-
--- the line that reports a fault
-abbrev pub last_line : CallEnd → List ℕ
-last_line Done = []
-last_line Usage = codes "fault USAGE\n"
-last_line OutOfMemory = codes "fault MEMORY\n"
-last_line (Disk file) = codes "fault DISK " ++ file_text file ++ codes "\n"
-last_line Source = codes "fault SOURCE\n"
-last_line Script = codes "fault SCRIPT\n"
-last_line Damaged = codes "fault DAMAGED\n"
+-- the last line, where there is a fault
+abbrev pub fault_line : Option Fault → List ℕ
+fault_line None = []
+fault_line (Some fault) = last_line fault
 
 -- the text of an outcome
 abbrev pub text_of : OutcomeView → List ℕ
-text_of view = shown_text view.shown ++ last_line view.end
+text_of view = shown_text view.shown ++ fault_line view.fault
 
--- the exit status
-abbrev pub status_of : CallEnd → ℕ
-status_of Done = 0
-status_of Usage = 2
-status_of OutOfMemory = 3
-status_of (Disk file) = 4
-status_of Source = 5
-status_of Script = 7
-status_of Damaged = 8
+-- the exit status of a fault
+abbrev pub fault_status : Fault → ℕ
+fault_status faults.Usage = 2
+fault_status faults.Memory = 3
+fault_status (faults.Disk file) = 4
+fault_status faults.Source = 5
+fault_status (faults.Script at) = 7
+fault_status (faults.Damaged place) = 8
+fault_status faults.NoBase = 9
+fault_status faults.Exists = 10
+fault_status (faults.Lanes given wanted) = 11
+
+-- the exit status, where all was printed
+abbrev pub status_of : Option Fault → ℕ
+status_of None = 0
+status_of (Some fault) = fault_status fault

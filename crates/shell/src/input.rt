@@ -2,8 +2,8 @@ ghost use Rattle.std.specs.Prelude.{◌≡◌, ◌+◌, ◌<◌, ◌≤◌, leng
 ghost use Rattle.io_edge.specs.Runs.{ReadsOn};
 ghost use Rattle.shell.specs.Input.{HasEnded, IsInput, StopsWithin, WasRead, read_limit};
 
-use crate::script::MAX_SCRIPT;
 use io_edge::{Failed, Source};
+use script::MAX_SCRIPT;
 use std::alloc::{AllocError, Global};
 
 const PIECE: usize = 16384;

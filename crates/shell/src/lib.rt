@@ -3,22 +3,13 @@
 #![tactic(auto)]
 
 mod call;
-mod end;
 mod input;
 mod laws;
-mod log;
+mod leading;
 mod outcome;
-mod printer;
-mod reading;
-mod reply;
+mod ready;
 mod run;
-mod script;
-mod session;
-mod statement;
-mod stop;
+mod status;
 
 pub use call::{Ended, is_run, ptime};
-pub use end::CallEnd;
-pub use laws::{one_reading, reads_what_was_forced, some_reading};
-pub use reply::Reply;
-pub use statement::KvStatement;
+pub use laws::crash_then_run;

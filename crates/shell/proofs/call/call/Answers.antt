@@ -1,13 +1,11 @@
 use Rattle.std.proofs.Common.{inr, refl}
-use Rattle.shell.specs.ReadScript.{script_of}
 use Rattle.shell.proofs.call.call.Goals as goal
 
 pub returns-in-Ok : goal.returns-in-Ok
 returns-in-Ok g c = inr (inr (record {
   asks = c.if-not-is_run.ensures.0 refl;
   read = c.in-Ok.ensures.script.0;
-  script = script_of c.in-Ok.script;
+  script = c.in-Ok.script;
   is = c.in-Ok.ensures.script.1;
-  runs = c.run_script.ensures.runs;
-  survives = c.run_script.ensures.survives;
+  runs = c.run_script.ensures;
 }))

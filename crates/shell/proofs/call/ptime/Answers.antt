@@ -3,7 +3,7 @@ use Rattle.disk_core.specs.declared.store.Store.{Store}
 use Rattle.shell.specs.Call.{Answers}
 use Rattle.shell.specs.Files.{log_file, outside_of}
 use Rattle.shell.specs.Outcome.{view_of}
-use Rattle.shell.proofs.Statuses.{all_done, disk_failed, disk_still, no_run, no_script, source_failed, source_still, stays_damaged}
+use Rattle.shell.proofs.Statuses.{all_done, all_read, disk_failed, disk_still, no_run, no_script, sink_failed, source_failed, source_still, stays_damaged, untouched_file}
 use Rattle.shell.proofs.call.ptime.Goals as goal
 
 pub returns-clause-answers : goal.returns-clause-answers
@@ -32,11 +32,20 @@ returns-clause-disk g c = disk_failed _ _ _ _ _ _ _ _ _ (returns-clause-answers 
 pub returns-clause-source : goal.returns-clause-source
 returns-clause-source g c = source_failed _ _ _ _ _ _ _ _ _ (returns-clause-answers g c)
 
+pub returns-clause-sink : goal.returns-clause-sink
+returns-clause-sink g c = sink_failed _ _ _ _ _ _ _ _ _ (returns-clause-answers g c)
+
 pub returns-clause-script : goal.returns-clause-script
 returns-clause-script g c = no_script _ _ _ _ _ _ _ _ _ (returns-clause-answers g c)
 
 pub returns-clause-damaged : goal.returns-clause-damaged
 returns-clause-damaged g c = stays_damaged _ _ _ _ _ _ _ _ _ (returns-clause-answers g c)
+
+pub returns-clause-read : goal.returns-clause-read
+returns-clause-read g c = all_read _ _ _ _ _ _ _ _ _ (returns-clause-answers g c)
+
+pub returns-clause-untouched : goal.returns-clause-untouched
+returns-clause-untouched g c = untouched_file _ _ _ _ _ _ _ _ _ (returns-clause-answers g c)
 
 pub returns-clause-no_disk_fault : goal.returns-clause-no_disk_fault
 returns-clause-no_disk_fault g c = disk_still _ _ _ _ _ _ _ _ _ (returns-clause-answers g c)

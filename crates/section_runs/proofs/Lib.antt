@@ -1,0 +1,4 @@
+pub mod TrailLaws
+pub mod RunLaws
+pub mod SectionLaws
+pub mod SectionRuns

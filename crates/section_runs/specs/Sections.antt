@@ -1,0 +1,89 @@
+-- What the blocks of sections were answered with.
+use Rattle.std.specs.Prelude.{◌≡◌, ℕ, ◌<◌, ◌≤◌, List, [], ◌∷◌, length, drop, Option, None, slice_get}
+use Rattle.std.specs.List.{AllByRecursion, flat_map}
+use Rattle.causes.specs.Causes.{one_more}
+use Rattle.row_types.specs.declared.block.Block.{Block}
+use Rattle.plain_model.specs.declared.reply.Reply.{Reply}
+use Rattle.plain_model.specs.Blocks.{Said}
+use Rattle.section_runs.specs.declared.section.ReadySection.{ReadySection}
+use Rattle.section_runs.specs.declared.section.SectionRun.{SectionRun}
+use Rattle.section_runs.specs.declared.section.Halt.{Halt}
+use Rattle.section_runs.specs.declared.section.Halt.TheVariants.{Done, Stopped, OutOfMemory}
+
+-- the blocks of a section: those behind its leading statements
+abbrev pub to_run : ReadySection → List Block
+to_run section = drop (length section.leads) section.blocks
+
+-- the blocks that have replies, each with its own
+abbrev pub with_replies : List Block → List (List Reply) → List Said
+with_replies [] replies = []
+with_replies (block ∷ blocks) [] = []
+with_replies (block ∷ blocks) (replies ∷ more) =
+    record { block = block; replies = replies } ∷ with_replies blocks more
+
+-- those of a section
+abbrev pub said_by : SectionRun → List Said
+said_by run = with_replies (to_run run.section) run.said
+
+-- those of all sections, one after the other
+abbrev pub all_said : List SectionRun → List Said
+all_said runs = flat_map said_by runs
+
+-- the blocks of a section that have no replies
+abbrev pub left_in : SectionRun → List Block
+left_in run = drop (length run.said) (to_run run.section)
+
+-- where a section ended as it does, so many of its blocks are left
+abbrev pub Leaves : Halt → ℕ → Type 0
+Leaves Done left = left ≡ 0
+Leaves Stopped left = Unit {0}
+Leaves OutOfMemory left = Unit {0}
+
+-- no more blocks have replies than there are, and all have where nothing stopped the section
+pub record IsAnswered (run : SectionRun) : Type 0 where
+  pub few : length run.said ≤ length (to_run run.section)
+  pub left : Leaves run.halt (length (left_in run))
+
+-- the section wasn't run, since the disk had failed before
+abbrev pub IsUnrun : SectionRun → Type 0
+IsUnrun run = (run.said ≡ []) × (run.halt ≡ Stopped)
+
+-- once the disk has failed in a section, none of the later ones is run
+abbrev pub AreStopped : List SectionRun → Type 0
+AreStopped [] = Unit {0}
+AreStopped (run ∷ runs) = (run.halt ≡ Stopped → AllByRecursion IsUnrun runs) × AreStopped runs
+
+-- what stops two parts of a run: a fault of the disk before memory that ran out
+abbrev pub worse : Halt → Halt → Halt
+worse Done other = other
+worse Stopped other = Stopped
+worse OutOfMemory Done = OutOfMemory
+worse OutOfMemory Stopped = Stopped
+worse OutOfMemory OutOfMemory = OutOfMemory
+
+-- what stops sections
+abbrev pub halt_of : List SectionRun → Halt
+halt_of [] = Done
+halt_of (run ∷ runs) = worse run.halt (halt_of runs)
+
+-- the count of the disk's faults: one more where it failed
+abbrev pub faults_after : Halt → ℕ → ℕ
+faults_after Done faults = faults
+faults_after Stopped faults = one_more faults
+faults_after OutOfMemory faults = faults
+
+-- this block, where the disk failed, and else another
+abbrev pub block_at : Halt → Option Block → Option Block → Option Block
+block_at Done block other = other
+block_at Stopped block other = block
+block_at OutOfMemory block other = other
+
+-- the block of a section at which the disk failed
+abbrev pub stopped_by : SectionRun → Option Block
+stopped_by run = block_at run.halt (slice_get (to_run run.section) (length run.said)) None
+
+-- that of the first section in which it did
+abbrev pub stopped_in : List SectionRun → Option Block
+stopped_in [] = None
+stopped_in (run ∷ runs) =
+    block_at run.halt (slice_get (to_run run.section) (length run.said)) (stopped_in runs)

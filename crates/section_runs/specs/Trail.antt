@@ -1,0 +1,28 @@
+-- The tables that blocks lead to, one after the other.
+use Rattle.std.specs.Prelude.{◌≡◌, ◌⊎◌, ℕ, List, [], ◌∷◌}
+use Rattle.row_types.specs.declared.definition.TableDef.{TableDef}
+use Rattle.row_types.specs.Tables.{Tables}
+use Rattle.plain_model.specs.Blocks.{Said, block_means}
+use Rattle.list_store.specs.Log.{BeginsWith}
+
+-- from the first tables on each block leads to the next ones, which are these
+abbrev pub Leads : Tables → List Said → List Tables → Type 0
+Leads first [] trail = trail ≡ []
+Leads first (said ∷ more) [] = ⊥
+Leads first (said ∷ more) (next ∷ trail) =
+    block_means said.block first said.replies next × Leads next more trail
+
+-- the tables at the end of a trail
+abbrev pub last_of : Tables → List Tables → Tables
+last_of first [] = first
+last_of first (next ∷ trail) = last_of next trail
+
+-- the tables are some of these
+abbrev pub IsAmong : Tables → List Tables → Type 0
+IsAmong tables [] = ⊥
+IsAmong tables (first ∷ more) = (tables ≡ first) ⊎ IsAmong tables more
+
+-- over the log file a run begins with some of these tables
+abbrev pub BeginsAmong : List TableDef → List Tables → List ℕ → Type 0
+BeginsAmong defs [] bytes = ⊥
+BeginsAmong defs (first ∷ more) bytes = BeginsWith defs first bytes ⊎ BeginsAmong defs more bytes
