@@ -3,9 +3,15 @@
 #![tactic(auto)]
 
 #[cfg(test)]
+mod ample;
+#[cfg(test)]
 mod disks;
 #[cfg(test)]
 mod lanes;
+#[cfg(test)]
+mod logs;
+#[cfg(test)]
+mod program;
 #[cfg(test)]
 mod runs;
 #[cfg(test)]
