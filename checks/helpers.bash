@@ -96,12 +96,14 @@ want_hex() {
     want_bytes "$1" "$scratch/bytes"
 }
 
-readonly three_inserts=$'session 1\nINSERT INTO kv VALUES (1, 10);\nINSERT INTO kv VALUES (2, 20);\nINSERT INTO kv VALUES (3, 30);\n'
-readonly three_lookups=$'session 1\nSELECT * FROM kv WHERE id = 1;\nSELECT * FROM kv WHERE id = 2;\nSELECT * FROM kv WHERE id = 3;\n'
+readonly kv_setup=$'setup\nCREATE TABLE kv (id INT PRIMARY KEY, n INT);\n'
+readonly kv_shown=$'setup\nok\nsession 1\n'
+readonly three_inserts="$kv_setup"$'session 1\nINSERT INTO kv VALUES (1, 10);\nINSERT INTO kv VALUES (2, 20);\nINSERT INTO kv VALUES (3, 30);\n'
+readonly three_lookups="$kv_setup"$'session 1\nSELECT * FROM kv WHERE id = 1;\nSELECT * FROM kv WHERE id = 2;\nSELECT * FROM kv WHERE id = 3;\n'
 readonly disk_fault=$'fault DISK lane0.even\n'
 
 readonly head_hex=0102000000000000000000
-readonly pair_hex=011000000001000000000000000a00000000000000
+readonly row_hex=01140000000100000101000000000000000a00000000000000
 
 # The 8 bytes of a number, lowest first, as od prints them.
 number_bytes() {
@@ -111,14 +113,14 @@ number_bytes() {
     bytes+=" ${digits:6:2} ${digits:4:2} ${digits:2:2} ${digits:0:2}"
 }
 
-# Line by line the batches of the pairs 1, -1 up to N, -N, and the gate after them.
+# Line by line the batches of the rows 1, -1 up to N, -N, one in each, and the gate after them.
 batches_of() {
     local i bytes key
     for ((i = 1; i <= $1; i++)); do
         number_bytes "$i"
         key="$bytes"
         number_bytes "-$i"
-        echo " 01 10 00 00 00$key$bytes"
+        echo " 01 14 00 00 00 01 00 00 01$key$bytes"
     done
     echo ' 00'
 }
@@ -129,10 +131,10 @@ new_folder() {
     folder="$scratch/traced"
 }
 
-# A folder whose log file has the pair 1, 10.
-folder_with_pair() {
+# A folder whose log file has the row 1, 10.
+folder_with_row() {
     new_folder
-    put_hex "$folder/lane0.even" "$head_hex${pair_hex}00"
+    put_hex "$folder/lane0.even" "$head_hex${row_hex}00"
 }
 
 # Runs a script over a folder under strace, which looks at the calls on one path alone and does what its last word says.

@@ -20,7 +20,7 @@ check_case() {
     end_case "$(basename "$case")"
 }
 
-# A standard output that takes nothing: the pair is in the file all the same.
+# A standard output that takes nothing: the row is in the file all the same.
 check_full_output() {
     local folder="$scratch/full_output"
     mkdir "$folder"
@@ -52,22 +52,21 @@ check_unread_input() {
     end_case unread_input
 }
 
-readonly lines_of_longest=2164801
+readonly lines_of_longest=2164800
 
-# A script of so many lines of 31 bytes, of which the last two have that many digits more: with 18 and 5 it has the
-# 67,108,864 bytes that a script may have.
+# A script of 67,108,861 bytes, and behind it this text: with three bytes it is as long as a script may be.
 long_script() {
-    echo 'session 1'
-    yes 'SELECT * FROM kv WHERE id = 1;' | head -n $((lines_of_longest - 2))
-    printf 'SELECT * FROM kv WHERE id = 1%0*d;\n' "$1" 0 "$2" 0
+    printf '%ssession 1\n' "$kv_setup"
+    yes 'SELECT * FROM kv WHERE id = 1;' | head -n "$lines_of_longest"
+    echo "$1"
 }
 
 check_longest_script() {
     local folder="$fast/longest_script"
     mkdir "$folder"
-    run run "$folder" < <(long_script 18 5) >"$scratch/stdout"
+    run run "$folder" < <(long_script --) >"$scratch/stdout"
     want_status 0
-    { echo 'session 1'; yes 'rows 0' | head -n "$lines_of_longest"; } >"$scratch/wanted"
+    { printf '%s' "$kv_shown"; yes 'rows 0' | head -n "$lines_of_longest"; } >"$scratch/wanted"
     want_output "$scratch/wanted"
     want_bytes "$folder/lane0.even" "$checks/cases/empty/lane0.even"
     end_case longest_script
@@ -76,9 +75,9 @@ check_longest_script() {
 check_one_byte_too_long() {
     local folder="$fast/one_byte_too_long"
     mkdir "$folder"
-    run run "$folder" < <(long_script 18 6) >"$scratch/stdout"
+    run run "$folder" < <(long_script ---) >"$scratch/stdout"
     want_status 7
-    echo 'fault SCRIPT' >"$scratch/wanted"
+    echo 'fault SCRIPT 67108864' >"$scratch/wanted"
     want_output "$scratch/wanted"
     want_bytes "$folder/lane0.even" /dev/null
     end_case one_byte_too_long
@@ -87,13 +86,49 @@ check_one_byte_too_long() {
 check_many_inserts() {
     local count=100000 folder="$fast/many_inserts"
     mkdir "$folder"
-    { echo 'session 1'; seq "$count" | sed 's/.*/INSERT INTO kv VALUES (&, -&);/'; } >"$fast/script"
-    { echo 'session 1'; yes 'ok 1' | head -n "$count"; } >"$scratch/wanted"
+    { printf '%ssession 1\n' "$kv_setup"; seq "$count" | sed 's/.*/INSERT INTO kv VALUES (&, -&);/'; } >"$fast/script"
+    { printf '%s' "$kv_shown"; yes 'ok 1' | head -n "$count"; } >"$scratch/wanted"
     run run "$folder" <"$fast/script" >"$scratch/stdout"
     want_status 0
     want_output "$scratch/wanted"
     cmp -s -n 11 "$folder/lane0.even" "$checks/cases/empty/lane0.even" || differs 'lane0.even has another head'
-    cmp -s <(od -An -v -t x1 -w21 -j 11 "$folder/lane0.even") <(batches_of "$count") ||
+    cmp -s <(od -An -v -t x1 -w25 -j 11 "$folder/lane0.even") <(batches_of "$count") ||
         differs 'lane0.even has other batches'
     end_case many_inserts
+}
+
+# So many rows of one INSERT are read, changed, looked up and taken away, in blocks of several statements: 1,000 rows a
+# statement, and what is left adds up.
+check_many_rows() {
+    local folder="$fast/many_rows"
+    mkdir "$folder"
+    {
+        printf '%ssession 1\n' "$kv_setup"
+        for ((i = 0; i < 100; i++)); do
+            printf 'INSERT INTO kv VALUES '
+            seq -s ', ' -f "(${i}%03g, 1)" 0 999 | sed 's/$/;/'
+        done
+        echo 'SELECT COUNT(*), SUM(n) FROM kv;'
+        for ((i = 0; i < 100; i++)); do
+            echo "UPDATE kv SET n = n + 1 WHERE id >= ${i}000 AND id < ${i}500;"
+        done
+        echo 'DELETE FROM kv WHERE id >= 99000;'
+        echo 'SELECT COUNT(*), SUM(n) FROM kv;'
+    } >"$fast/script"
+    {
+        printf '%s' "$kv_shown"
+        yes 'ok 1000' | head -n 100
+        printf '100000, 100000\nrows 1\n'
+        yes 'ok 500' | head -n 100
+        printf 'ok 1000\n99000, 148500\nrows 1\n'
+    } >"$scratch/wanted"
+    run run "$folder" <"$fast/script" >"$scratch/stdout"
+    want_status 0
+    want_output "$scratch/wanted"
+    printf '%ssession 1\nSELECT COUNT(*), SUM(n) FROM kv;\n' "$kv_setup" >"$fast/script"
+    printf '%s99000, 148500\nrows 1\n' "$kv_shown" >"$scratch/wanted"
+    run run "$folder" <"$fast/script" >"$scratch/stdout"
+    want_status 0
+    want_output "$scratch/wanted"
+    end_case many_rows
 }

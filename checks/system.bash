@@ -1,12 +1,12 @@
 # What the system may do to a run besides failing a call: another process at work, calls that take a part, streams that
 # are closed, a disk that lost what it was told to keep.
 
-readonly one_insert=$'session 1\nINSERT INTO kv VALUES (2, 20);\n'
+readonly one_insert="$kv_setup"$'session 1\nINSERT INTO kv VALUES (2, 20);\n'
 
 # While a run waits for its script, a second one over the same folder is refused, and changes nothing.
 check_two_at_once() {
     local folder pid turns
-    folder_with_pair
+    folder_with_row
     mkfifo "$scratch/slow_script"
     "$ptime" run "$folder" <"$scratch/slow_script" >"$scratch/first_stdout" 2>/dev/null &
     pid=$!
@@ -16,11 +16,11 @@ check_two_at_once() {
         sleep 0.05
     done
     step "$folder" 4 "$one_insert" "$disk_fault"
-    want_hex "$folder/lane0.even" "$head_hex${pair_hex}00"
+    want_hex "$folder/lane0.even" "$head_hex${row_hex}00"
     printf '%s' "$one_insert" >&7
     exec 7>&-
     wait "$pid" || differs 'the first run fails'
-    cmp -s "$scratch/first_stdout" <(printf 'session 1\nok 1\n') || differs 'the first run has other replies'
+    cmp -s "$scratch/first_stdout" <(printf '%sok 1\n' "$kv_shown") || differs 'the first run has other replies'
     rm "$scratch/slow_script"
     end_case two_at_once
 }
@@ -39,12 +39,12 @@ check_unheld_stream() {
     status=$?
     want_status 4
     [ -e "$folder/lane0.even" ] && differs 'a log file was made'
-    folder_with_pair
+    folder_with_row
     strace -f -qq -o "$scratch/calls" -P /dev/null -e inject=openat:error=ENOENT \
         bash -c 'exec "$0" run "$1"' "$program" "$folder" <"$scratch/script" >"$scratch/stdout" 2>/dev/null
     status=$?
     want_status 0
-    want_shown $'session 1\nok 1\n'
+    want_shown "$kv_shown"$'ok 1\n'
     end_case unheld_stream
 }
 
@@ -53,29 +53,29 @@ check_input_in_pieces() {
     local folder
     new_folder
     run run "$folder" < <(
-        printf 'session 1\nINSE'
+        printf '%ssession 1\nINSE' "$kv_setup"
         sleep 0.2
         printf 'RT INTO kv VALUES (1, 10);\nSELECT * FROM kv WHERE id = 1'
         sleep 0.2
         printf ';\n'
     ) >"$scratch/stdout"
     want_status 0
-    want_shown $'session 1\nok 1\n1, 10\nrows 1\n'
+    want_shown "$kv_shown"$'ok 1\n1, 10\nrows 1\n'
     end_case input_in_pieces
 }
 
-# A file may have 1,024 bytes: 48 pairs fit, and of the frame of the next one 4 bytes are written before a write fails.
+# A file may have 1,024 bytes: 40 rows fit, and of the frame of the next one 12 bytes are written before a write fails.
 check_short_write_of_log() {
     local folder i
     new_folder
-    { echo 'session 1'; seq 50 | sed 's/.*/INSERT INTO kv VALUES (&, -&);/'; } >"$scratch/script"
+    { printf '%ssession 1\n' "$kv_setup"; seq 42 | sed 's/.*/INSERT INTO kv VALUES (&, -&);/'; } >"$scratch/script"
     (trap '' XFSZ; ulimit -f 1; exec "$program" run "$folder") <"$scratch/script" 2>"$scratch/stderr" | cat >"$scratch/stdout"
     status="${PIPESTATUS[0]}"
     want_status 4
-    { echo 'session 1'; yes 'ok 1' | head -n 48; echo stopped; echo stopped; printf '%s' "$disk_fault"; } >"$scratch/wanted"
+    { printf '%s' "$kv_shown"; yes 'ok 1' | head -n 40; echo stopped; echo stopped; printf '%s' "$disk_fault"; } >"$scratch/wanted"
     want_output "$scratch/wanted"
-    { echo 'session 1'; seq 50 | sed 's/.*/SELECT * FROM kv WHERE id = &;/'; } >"$scratch/script"
-    { echo 'session 1'; seq 48 | sed 's/.*/&, -&\nrows 1/'; echo 'rows 0'; echo 'rows 0'; } >"$scratch/wanted"
+    { printf '%ssession 1\n' "$kv_setup"; seq 42 | sed 's/.*/SELECT * FROM kv WHERE id = &;/'; } >"$scratch/script"
+    { printf '%s' "$kv_shown"; seq 40 | sed 's/.*/&, -&\nrows 1/'; echo 'rows 0'; echo 'rows 0'; } >"$scratch/wanted"
     run run "$folder" <"$scratch/script" >"$scratch/stdout"
     want_status 0
     want_output "$scratch/wanted"
@@ -86,8 +86,8 @@ check_short_write_of_log() {
 check_short_write_of_output() {
     local folder
     new_folder
-    { echo 'session 1'; yes 'SELECT * FROM kv WHERE id = 1;' | head -n 1500; } >"$scratch/script"
-    { echo 'session 1'; yes 'rows 0' | head -n 1500; } | head -c 1024 >"$scratch/wanted"
+    { printf '%ssession 1\n' "$kv_setup"; yes 'SELECT * FROM kv WHERE id = 1;' | head -n 1500; } >"$scratch/script"
+    { printf '%s' "$kv_shown"; yes 'rows 0' | head -n 1500; } | head -c 1024 >"$scratch/wanted"
     (trap '' XFSZ; ulimit -f 1; exec "$program" run "$folder") <"$scratch/script" >"$scratch/stdout" 2>"$scratch/stderr"
     status=$?
     want_status 6
@@ -110,22 +110,22 @@ check_short_calls() {
         skip_cases 3 'short_calls needs strace'
         return
     fi
-    folder_with_pair
+    folder_with_row
     run_traced "$folder" "$one_insert" "$folder/lane0.even" "trace=$calls" -e inject=pwrite64:retval=5:when=2
-    want_transfers 'pread64 33 0' 'pwrite64 33 0' fdatasync 'pread64 1 0' 'pread64 11 0' 'pread64 22 11' 'pread64 1 32' \
+    want_transfers 'pread64 37 0' 'pwrite64 37 0' fdatasync 'pread64 1 0' 'pread64 11 0' 'pread64 22 11' 'pread64 1 32' \
         'pwrite64 21 33' 'pwrite64 16 38' fdatasync 'pwrite64 1 32' fdatasync
     end_case 'short write'
 
-    folder_with_pair
+    folder_with_row
     run_traced "$folder" "$one_insert" "$folder/lane0.even" "trace=$calls" -e inject=pread64:retval=3:when=3
-    want_transfers 'pread64 33 0' 'pwrite64 33 0' fdatasync 'pread64 1 0' 'pread64 11 0' 'pread64 8 3'
+    want_transfers 'pread64 37 0' 'pwrite64 37 0' fdatasync 'pread64 1 0' 'pread64 11 0' 'pread64 8 3'
     want_status 8
     end_case 'short read'
 
     new_folder
-    run_traced "$folder" "$three_inserts" "$scratch/stdout" trace=write -e inject=write:retval=10:when=1
+    run_traced "$folder" "$three_inserts" "$scratch/stdout" trace=write -e inject=write:retval=9:when=1
     want_status 0
-    want_shown $'ok 1\nok 1\nok 1\n'
+    want_shown $'session 1\nok 1\nok 1\nok 1\n'
     end_case 'short print'
 }
 
@@ -204,15 +204,15 @@ check_lost_sync() {
         skip_cases 1 'lost_sync needs a loop device that can be mounted'
         return
     fi
-    step "$scratch/disk" 0 $'session 1\nINSERT INTO kv VALUES (1, 10);\n' $'session 1\nok 1\n'
+    step "$scratch/disk" 0 "$kv_setup"$'session 1\nINSERT INTO kv VALUES (1, 10);\n' "$kv_shown"$'ok 1\n'
     sync
     insert_and_lose_gate
     want_status 4
-    want_shown $'session 1\nstopped\nfault DISK lane0.even\n'
-    step "$scratch/disk" 0 $'session 1\nINSERT INTO kv VALUES (3, 30);\n' $'session 1\nok 1\n'
+    want_shown "$kv_shown"$'stopped\nfault DISK lane0.even\n'
+    step "$scratch/disk" 0 "$kv_setup"$'session 1\nINSERT INTO kv VALUES (3, 30);\n' "$kv_shown"$'ok 1\n'
     umount "$scratch/disk"
     mount "$device" "$scratch/disk"
-    step "$scratch/disk" 0 "$three_lookups" $'session 1\n1, 10\nrows 1\n2, 20\nrows 1\n3, 30\nrows 1\n'
+    step "$scratch/disk" 0 "$three_lookups" "$kv_shown"$'1, 10\nrows 1\n2, 20\nrows 1\n3, 30\nrows 1\n'
     unmount_disk
     end_case lost_sync
 }
