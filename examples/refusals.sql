@@ -1,0 +1,26 @@
+setup
+-- What is refused, and how: docs/SQL.md has the list and the order.
+CREATE TABLE kv (id INT PRIMARY KEY, n INT, t TEXT(3));
+CREATE TABLE kv (id INT PRIMARY KEY);
+CREATE TABLE none (t TEXT(3));
+CREATE TABLE wide (id INT PRIMARY KEY, t TEXT(4093));
+INSERT INTO kv VALUES (1, 10, 'a');
+
+session 1
+SELEC * FROM kv;
+COMMIT;
+CREATE TABLE late (id INT PRIMARY KEY);
+SELECT * FROM kw;
+INSERT INTO kv VALUES (2, 20);
+INSERT INTO kv VALUES (2, 'b', 'b');
+INSERT INTO kv VALUES (2, 20, 'abcd');
+INSERT INTO kv VALUES (1, 20, 'b');
+SELECT m FROM kv;
+SELECT * FROM kv ORDER BY n;
+UPDATE kv SET id = 2;
+UPDATE kv SET n = 1, n = 2;
+UPDATE kv SET n = n + 9223372036854775807;
+BEGIN;
+BEGIN;
+ROLLBACK;
+SELECT * FROM kv;
