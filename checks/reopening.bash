@@ -94,7 +94,7 @@ play_hex() {
             at=$((at + 40))
         elif [[ "${digits:at:6}" = 020000 && $((at + 22)) -le "$end" ]]; then
             from_hex "${digits:at+6:16}"
-            [ -n "${rows[number]:-}" ] || return 1
+            [ -n "${rows[$number]:-}" ] || return 1
             unset "rows[$number]"
             at=$((at + 22))
         else

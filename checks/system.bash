@@ -112,13 +112,13 @@ check_short_calls() {
     fi
     folder_with_row
     run_traced "$folder" "$one_insert" "$folder/lane0.even" "trace=$calls" -e inject=pwrite64:retval=5:when=2
-    want_transfers 'pread64 37 0' 'pwrite64 37 0' fdatasync 'pread64 1 0' 'pread64 11 0' 'pread64 22 11' 'pread64 1 32' \
-        'pwrite64 21 33' 'pwrite64 16 38' fdatasync 'pwrite64 1 32' fdatasync
+    want_transfers 'pread64 37 0' 'pwrite64 37 0' fdatasync 'pread64 1 0' 'pread64 8 1' 'pread64 2 9' 'pread64 26 11' \
+        'pwrite64 25 37' 'pwrite64 20 42' fdatasync 'pwrite64 1 36' fdatasync
     end_case 'short write'
 
     folder_with_row
     run_traced "$folder" "$one_insert" "$folder/lane0.even" "trace=$calls" -e inject=pread64:retval=3:when=3
-    want_transfers 'pread64 37 0' 'pwrite64 37 0' fdatasync 'pread64 1 0' 'pread64 11 0' 'pread64 8 3'
+    want_transfers 'pread64 37 0' 'pwrite64 37 0' fdatasync 'pread64 1 0' 'pread64 8 1' 'pread64 5 4'
     want_status 8
     end_case 'short read'
 

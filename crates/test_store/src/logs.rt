@@ -28,8 +28,9 @@ fn opening(alloc: Global, disk: MemDisk) -> Result<String, Fail> {
 fn log_of(alloc: Global, bodies: &[&[u8]], end: &[u8]) -> Result<Vec<u8>, AllocError> {
     let mut bytes = b"\x01\x02\0\0\0\0\0\0\0\0\0".to_vec(alloc)?;
     for body in bodies {
+        let len = u32::try_from(body.len()).unwrap_or(u32::MAX);
         bytes.push(1)?;
-        bytes.extend_from_slice(&(body.len() as u32).to_le_bytes())?;
+        bytes.extend_from_slice(&len.to_le_bytes())?;
         bytes.extend_from_slice(body)?;
     }
     bytes.extend_from_slice(end)?;
