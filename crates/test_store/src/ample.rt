@@ -14,7 +14,7 @@ const KINDS: [(&str, u8, &str); 13] = [
     (
         "setup\nCREATE TABLE a (id INT PRIMARY KEY, id INT);\n\
             CREATE TABLE b (id INT PRIMARY KEY, t TEXT(4093));\n\
-            CREATE TABLE c (id INT PRIMARY KEY, t TEXT(4085));\nINSERT INTO c VALUES (1, 'a');\n",
+            CREATE TABLE c (id INT PRIMARY KEY, t TEXT(85));\nINSERT INTO c VALUES (1, 'a');\n",
         0,
         "setup\nrefused SAME NAME 1\nrefused TOO WIDE 4104\nok\nok 1\n",
     ),
