@@ -132,3 +132,32 @@ check_many_rows() {
     want_output "$scratch/wanted"
     end_case many_rows
 }
+
+# With 20 MB of memory not all of 200,000 rows fit: the block that finds none is undone, it and those behind it are
+# stopped, and the next session runs. What was answered is in the file.
+check_out_of_memory() {
+    local folder="$fast/out_of_memory" done_blocks
+    mkdir "$folder"
+    {
+        printf '%ssession 1\n' "$kv_setup"
+        for ((i = 0; i < 200; i++)); do
+            printf 'INSERT INTO kv VALUES '
+            seq -s ', ' -f "(${i}%03g, 1)" 0 999 | sed 's/$/;/'
+        done
+        printf 'session 2\nINSERT INTO kv VALUES (-1, 1);\n'
+    } >"$fast/script"
+    (ulimit -v 20000; exec "$program" run "$folder") <"$fast/script" >"$scratch/stdout" 2>"$scratch/stderr"
+    status=$?
+    want_status 3
+    done_blocks="$(grep -c '^ok 1000$' "$scratch/stdout")"
+    [ "$done_blocks" -gt 0 ] && [ "$done_blocks" -lt 200 ] || differs "$done_blocks blocks are answered"
+    {
+        printf '%s' "$kv_shown"
+        yes 'ok 1000' | head -n "$done_blocks"
+        yes 'stopped MEMORY' | head -n $((200 - done_blocks))
+        printf 'session 2\nok 1\nfault MEMORY\n'
+    } >"$scratch/wanted"
+    want_output "$scratch/wanted"
+    step "$folder" 0 "$kv_setup"$'session 1\nSELECT COUNT(*) FROM kv;\n' "$kv_shown$((1000 * done_blocks + 1))"$'\nrows 1\n'
+    end_case out_of_memory
+}
