@@ -72,8 +72,8 @@ module _ {D : Type 0} (d : Ghosts D) where
       (fault : OpenFault) × CannotOpen d defs old fault new × (view ≡ fault_alone (fault_opening fault))
 
   -- the file was opened, the sections were run, and their answers are shown
-  abbrev pub IsRun : List TableDef → List ReadySection → D → OutcomeView → D → Type 0
-  IsRun defs sections old view new =
+  abbrev pub WasRunOver : List TableDef → List ReadySection → D → OutcomeView → D → Type 0
+  WasRunOver defs sections old view new =
       (shown : List SectionRun) × (map (λ run. run.section) shown ≡ sections)
       × SectionsRan defs old shown new
       × (view ≡ record { fault = fault_halting (halt_of shown); shown = Some shown })
@@ -85,4 +85,4 @@ module _ {D : Type 0} (d : Ghosts D) where
       ((view ≡ fault_alone Memory) × (new ≡ old))
       ⊎ ((defs : List TableDef) × (sections : List ReadySection)
       × AreReady script.setup script.sessions defs sections
-      × (IsUnopened defs old view new ⊎ IsRun defs sections old view new))
+      × (IsUnopened defs old view new ⊎ WasRunOver defs sections old view new))

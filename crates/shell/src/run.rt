@@ -1,7 +1,7 @@
 // Runs a script over the log file.
 ghost use Rattle.std.specs.Prelude.{◌≡◌, ◌⊎◌, ◌≤◌, [], vec_capacity, vec_len};
 ghost use Rattle.shell.specs.Outcome.{view_of};
-ghost use Rattle.shell.specs.Running.{IsRun, IsUnopened, Runs, fault_halting, fault_opening};
+ghost use Rattle.shell.specs.Running.{WasRunOver, IsUnopened, Runs, fault_halting, fault_opening};
 
 use crate::outcome::Outcome;
 use crate::ready::make_ready;
@@ -49,7 +49,7 @@ fn run_ready<D: Disk>(
     requires none { room.items ≡ [] }
     requires room { vec_len sections ≤ vec_capacity room }
     ensures { IsUnopened D.Disk schema disk (view_of result.1) result.0
-        ⊎ IsRun D.Disk schema sections.items disk (view_of result.1) result.0 }
+        ⊎ WasRunOver D.Disk schema sections.items disk (view_of result.1) result.0 }
 {
     let mut store = match ListStore::open(alloc, &schema, disk) {
         Ok(store) => store,
