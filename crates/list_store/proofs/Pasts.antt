@@ -14,8 +14,8 @@ use Rattle.lane_format.specs.Lane.{IsLane}
 use Rattle.call_log.specs.Played.{ArePlayed, IsPlayed, empty_tables, played, tables_behind_change}
 use Rattle.call_log.specs.History.{batches_of, bodies_of, gate_behind, log_limit, with_batch}
 use Rattle.call_log.proofs.Histories.{batches_played, settled_is_played}
-use Rattle.list_keeper.specs.Past.{IsPast, Told, tables_in}
 use Rattle.txn_rows.specs.Rows.{StopsAt}
+use Rattle.list_keeper.specs.Past.{IsPast, Told, tables_in}
 use Rattle.list_store.specs.Log.{IsLogOf, IsNoBatch, MayBeLogged, NoChange, NoRow, PlaysTo, logged_tables}
 
 -- its batches may be logged, and leave the tables that it has

@@ -24,7 +24,7 @@ use Rattle.list_store.specs.Log.{BeginsWith, IsLogOf, MayBeLogged}
 use Rattle.list_store.specs.Opening.{LeftByOpening}
 use Rattle.list_store.specs.declared.store.ListStore.{ListStore}
 use Rattle.list_store.proofs.Lanes.{gate_is_length}
-use Rattle.list_store.proofs.Pasts.{log_of_lane, tables_are_logged}
+use Rattle.list_store.proofs.Pasts.{log_of_lane, logged_of, tables_are_logged}
 
 -- the log without batches leaves empty tables
 pub empty_log : (defs : List TableDef) (image : List ℕ) → IsLane 2 0 [] image → IsLogOf defs (empty_tables defs) image
@@ -74,6 +74,8 @@ module _ {D : Type 0} (d : Ghosts D) where
       idle = idle;
       forced = forced;
       tables_are = refl;
+      logged = logged_of store.keeper past;
+      leaves = tables_are_logged store.keeper past;
       lane = lane;
       stage = stage ∙ ap (Open 2) (sym gate_is);
       file = subst (λ (l : List (List ℕ)). Holds d store.writer 2 l) (sym bodies_are) file;

@@ -12,7 +12,7 @@ use Rattle.lane_format.specs.Writer as lane
 use Rattle.lane_format.specs.declared.writer.Stage.TheVariants.{Open}
 use Rattle.call_log.specs.History.{batches_of, bodies_of, gate_behind, last_batch}
 use Rattle.list_keeper.specs.Past.{IsPast, tables_in}
-use Rattle.list_store.specs.Log.{IsLogOf}
+use Rattle.list_store.specs.Log.{IsLogOf, MayBeLogged, logged_tables}
 use Rattle.list_store.specs.declared.store.ListStore.{ListStore}
 
 -- the disk of a store's log file
@@ -36,13 +36,15 @@ module _ {D : Type 0} (d : Ghosts D) where
   abbrev pub IsQuiet : D → List ℕ → Type 0
   IsQuiet disk bytes = (d.content disk ≡ Some bytes) × Only bytes (d.may_leave disk)
 
-  -- The store has these tables: no transaction runs, its keeper has them, and its log
-  -- file is the open lane of generation 2 with each batch that has been committed.
+  -- The store has these tables: no transaction runs, its keeper has them, and its log file is
+  -- the open lane of generation 2 with each batch that has been committed, which leave them.
   pub record Keeps (store : ListStore D) (tables : Tables) : Type 0 where
     pub past : IsPast store.keeper
     pub idle : is_running store.keeper.calls ≡ false
     pub forced : last_batch store.keeper.calls ≡ []
     pub tables_are : tables ≡ tables_in store.keeper
+    pub logged : MayBeLogged (defs_of store) (batches_in store)
+    pub leaves : tables ≡ logged_tables (defs_of store) (batches_in store)
     pub lane : lane_of store.writer ≡ 0
     pub stage : stage_of store.writer ≡ Open 2 (gate_of store)
     pub file : Holds d store.writer 2 (bodies_of (defs_of store) (batches_in store))

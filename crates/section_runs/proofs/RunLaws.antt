@@ -14,7 +14,6 @@ use Rattle.list_store.specs.Log.{IsLogOf}
 use Rattle.list_store.specs.Keeping.{Keeps, Secures, batches_in, defs_of, disk_of}
 use Rattle.list_store.specs.Running.{Answers, IsEither, IsUnrun, Stops}
 use Rattle.list_store.specs.declared.store.ListStore.{ListStore}
-use Rattle.list_store.proofs.Pasts.{logged_of, tables_are_logged}
 use Rattle.section_runs.specs.Trail.{BeginsAmong, Leads, last_of}
 use Rattle.section_runs.specs.Lasting.{AreCaused, AreFlying, Lasts, RanFrom, Runs}
 use Rattle.section_runs.proofs.TrailLaws.{among_end, among_front, last-append, leads_on}
@@ -88,7 +87,7 @@ module _ {D : Type 0} (d : Ghosts D) where
       record {
         trail = next ∷ [];
         leads = (means.2, refl);
-        causes = ((batches_in old, logged_of old.keeper keeps.past, keeps.tables_are ∙ tables_are_logged old.keeper keeps.past, answers.causes), tt);
+        causes = ((batches_in old, keeps.logged, keeps.leaves, answers.causes), tt);
         keeps = λ none. means.1;
         secures = λ secures none.
             let after = answers.secures tables secures in
