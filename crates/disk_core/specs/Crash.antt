@@ -29,8 +29,8 @@ Only bytes may_leave = (image : List ℕ) → may_leave image → image ≡ byte
 abbrev pub NothingPending : Option (List ℕ) → (List ℕ → Type 0) → Type 0
 NothingPending content may_leave = ForSome content (λ bytes. Only bytes may_leave)
 
--- Time goes on: a crash since a moment might have left what
--- it might have left before, or what it may leave now.
+-- Time passes: a crash since a moment might have left what it might have left before, or what it may leave
+-- now.
 pub record Elapses (old new : ℕ) (left_old left_new : ℕ → List ℕ → Type 0)
     (may_leave : List ℕ → Type 0) : Type 0 where
   pub later : old ≤ new

@@ -109,7 +109,7 @@ end_continues old new ends = since_weaker is_end (λ call. not (is_begin call)) 
 pub end_is_no_work : (old new : List Call) → AllSince is_end old new → WorksNot old new
 end_is_no_work old new ends = since_weaker is_end (λ call. not (is_row_work call)) old new end_works_not ends
 
--- ---- What goes on through calls
+-- ---- What stays through calls
 
 -- the age stays while no transaction begins
 pub same_age : (old new : List Call) → Continues old new → age_of new ≡ age_of old

@@ -1,4 +1,4 @@
-//! A keeper of rows in one sorted list that notes its calls and stops where it is told to, and blocks that are
+//! A keeper of rows in one sorted list that notes its calls and stops where it has to, and blocks that are
 //! tried over it, with what comes of them as text.
 #![tactic(auto)]
 

@@ -1,4 +1,4 @@
--- What lasts goes on from moment to moment.
+-- What lasts holds from moment to moment.
 use Rattle.std.proofs.Common.{List, [], ◌≡◌, ◌∙◌, ◌<◌, ◌++◌, length, refl, sym, ap, arith, le_refl, append_assoc, append-nil}
 use Rattle.olfit_rule.specs.declared.view.Change.{Change}
 use Rattle.olfit_rule.specs.declared.view.Moment.{Moment}

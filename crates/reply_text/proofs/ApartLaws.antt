@@ -277,14 +277,14 @@ tail_is a b x y e = cc
 no_quote : (c : ℕ) → eqb c 39 ≡ false → 39 ≡ c → ⊥
 no_quote c e same = absurd (let both : eqb 39 39 ≡ false = ap (λ n. eqb n 39) same ∙ e in cc)
 
--- a text that has ended doesn't go on
+-- a text that has ended has no further byte
 ended : (t : Bool) (c : ℕ) (cs r s : List ℕ) → eqb c 39 ≡ t → Stops is_quote r → 39 ∷ r ≡ doubled (c ∷ cs) ++ 39 ∷ s → ⊥
 ended true c cs r s f stops e =
     let whole : 39 ∷ r ≡ 39 ∷ 39 ∷ (doubled cs ++ 39 ∷ s) = e ∙ ap (λ (l : List ℕ). l ++ 39 ∷ s) (doubled_quote c cs f) in
     goes_on is_quote 39 (doubled cs ++ 39 ∷ s) r refl stops (tail_is 39 39 r (39 ∷ (doubled cs ++ 39 ∷ s)) whole)
 ended false c cs r s f stops e = no_quote c f (head_is 39 c r (doubled cs ++ 39 ∷ s) (e ∙ ap (λ (l : List ℕ). l ++ 39 ∷ s) (doubled_other c cs f)))
 
--- two texts go on with the same byte
+-- two texts have the same next byte
 step : (t u : Bool) (c d : ℕ) (cs ds x y : List ℕ) → eqb c 39 ≡ t → eqb d 39 ≡ u → doubled (c ∷ cs) ++ x ≡ doubled (d ∷ ds) ++ y → (c ≡ d) × (doubled cs ++ x ≡ doubled ds ++ y)
 step true true c d cs ds x y f g e =
     let whole : 39 ∷ 39 ∷ (doubled cs ++ x) ≡ 39 ∷ 39 ∷ (doubled ds ++ y) = ap (λ (l : List ℕ). l ++ x) (sym (doubled_quote c cs f)) ∙ e ∙ ap (λ (l : List ℕ). l ++ y) (doubled_quote d ds g) in

@@ -181,7 +181,7 @@ none_from o bytes none e = sym e ∙ none_so o none
 pub starts_end : (bytes : List ℕ) (at : ℕ) → length bytes ≤ at → StartsSection (lines (drop at bytes))
 starts_end bytes at past = subst StartsSection (sym (ap lines (drop_all at bytes past) ∙ lines_nil)) tt
 
--- a line of so many bytes, behind which the text goes on, ends with a line feed
+-- a line of so many bytes, behind which the text continues, ends with a line feed
 pub ended_at : (bytes : List ℕ) (at n : ℕ) → 0 < at + n → 0 < n → (n < length (drop at bytes) → get_or (drop at bytes) (n - 1) 0 ≡ 10) → at + n < length bytes → get_or bytes (at + n - 1) 0 ≡ 10
 ended_at bytes at n some here ended inside =
     let same : at + (n - 1) ≡ at + n - 1 = omega arith in

@@ -23,7 +23,7 @@ later_both m n (Semicolon k) = let same : m + (n + k) ≡ m + n + k = omega arit
 later_both m n (LineEnd k) = let same : m + (n + k) ≡ m + n + k = omega arith in ap LineEnd same
 later_both m n TextEnd = refl
 
--- the scan goes on past a byte at which nothing ends, and stops at one at which something does
+-- the scan continues past a byte at which nothing ends, and stops at one at which something does
 stop_none : (i : ℕ) (o : Option StatementEnd) → option_map (later i) o ≡ None → o ≡ None
 stop_none i None e = refl
 stop_none i (Some s) e = absurd (cc)

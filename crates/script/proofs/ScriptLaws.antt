@@ -158,7 +158,7 @@ inside_so : (text : List ℕ) (at : ℕ) (header : Header) → BeginsSection (li
 inside_so text at header begins (inl inside) = inside
 inside_so text at header begins (inr past) = absurd (let none : None ≡ Some header = sym (ap first_header (ap lines (drop_all at text past) ∙ lines_nil)) ∙ begins in cc)
 
--- where a header stands, the text goes on
+-- where a header stands, the text continues
 pub inside_of : (text : List ℕ) (at : ℕ) (header : Header) → BeginsSection (lines (drop at text)) header → at < length text
 inside_of text at header begins = inside_so text at header begins (cases_lt at (length text))
 

@@ -210,7 +210,7 @@ err_weaker (Err f) P Q weaker is = bad_weaker f P Q weaker is
 pub slice_is : (xs : List ℕ) (at n : ℕ) → slice_range xs at (at + n) ≡ take n (drop at xs)
 slice_is xs at n = let same : at + n - at ≡ n = omega arith in ap (λ m. take m (drop at xs)) same
 
--- where the scan stopped in a literal, the text goes on
+-- where the scan stopped in a literal, the text continues
 pub line_end_within : (text : List ℕ) (at len : ℕ) → at ≤ length text → LineEnd len ≡ end_of Neither (drop at text) → at + len < length text
 line_end_within text at len within found =
     let s = read_is_so (drop at text) (LineEnd len) (sym found) in

@@ -178,7 +178,7 @@ module _ (one : OneList) where
   end_same CutOff Rollback rest after1 after2 a b = absurd (let e = sym b.2 ∙ a.0 in cc)
   end_same CutOff CutOff rest after1 after2 a b = (refl, a.1 ∙ sym b.1)
 
-  -- a block that has ended doesn't go on with this statement
+  -- a block that has ended doesn't continue with this statement
   not_inside : (e : BlockEnd) (y : Placed) (ys after : List Placed) → (EndsBlock y → ⊥) → Ends e (y ∷ ys) after → ⊥
   not_inside Commit y ys after none a = none (inl (subst (IsWord words.Commit) (let e = a.2 in cc) a.1))
   not_inside Rollback y ys after none a = none (inr (subst (IsWord words.Rollback) (let e = a.2 in cc) a.1))

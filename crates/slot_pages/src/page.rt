@@ -216,8 +216,8 @@ impl Page {
     }
 
     /// Looks how many slots from the first on are taken, where slots have `len` bytes, so that later calls of
-    /// `first_free` begin behind them. A call that follows
-    /// others of the same length goes on where they stopped.
+    /// `first_free` begin behind them. A call that follows others of the same length continues where they
+    /// stopped.
     pub fn skip_taken(&mut self, pool: &Pool, len: usize)
         requires page { IsPage pool.now self.old }
         requires least { 16 ≤ len }

@@ -147,7 +147,7 @@ literal_stands b bs lexeme n quote e =
       some = omega (arith, whole);
     }
 
--- a sign of one byte that the next doesn't go on, or one of two bytes
+-- a sign of one byte that the next doesn't continue, or one of two bytes
 data SignRead (b next : ℕ) : Mark → ℕ → Type 0 where
   one : {s : Mark} → SpellsSign s (b ∷ []) → sign_goes_on s next ≡ false → SignRead b next s 1
   two : {s : Mark} → SpellsSign s (b ∷ next ∷ []) → next ≢ 0 → ((c : ℕ) → sign_goes_on s c ≡ false) → SignRead b next s 2

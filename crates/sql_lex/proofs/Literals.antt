@@ -70,7 +70,7 @@ module _ (bytes : List ℕ) (i : ℕ) (inside : i < length bytes) where
     behind_quote = λ e. omega arith;
   }
 
--- the text goes on to the quote that closes the literal
+-- the text continues to the quote that closes the literal
 pub record Closing (text : List ℕ) (n : ℕ) : Type 0 where
   pub raw : List ℕ
   pub after : List ℕ

@@ -114,7 +114,7 @@ within_so (Some found) text at e inside =
 pub found_within : (o : Option FoundToken) (text : List ℕ) (at : ℕ) → option_map seen o ≡ front (drop at text) → at < length text → IfSome o (λ found. (0 < found.len) × (at + found.len ≤ length text))
 found_within o text at e inside = within_so o text at e (omega arith)
 
--- no token is read, and the text goes on: there it stops
+-- no token is read, and the text continues: there it stops
 pub SoFar-stops : (base at : ℕ) (text : List ℕ) (items : List Item) (left : List ℕ) → SoFar (base + length text) text items left → front left ≡ None → 0 < length left → at + length left ≡ base + length text → UpToSo base text items at
 SoFar-stops base at text items left so_far none some place = record {
   rest = so_far.rest;
