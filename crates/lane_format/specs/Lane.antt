@@ -1,5 +1,5 @@
--- The text of a lane file: a header, batches one after the other, and
--- behind them a gate that isn't open; and when a file is open at all.
+-- The text of a lane file: a head, batches one after the other, and behind them a gate that isn't open; and
+-- when a file is open at all.
 use Rattle.std.specs.Prelude.{◌≡◌, ◌≢◌, ℕ, ◌+◌, ◌-◌, ◌<◌, ◌≤◌, ◌^◌, List, [], ◌∷◌, ◌++◌, length, slice_index}
 use Rattle.std.specs.Prelude.{take, drop}
 use Rattle.std.specs.List.{AllByRecursion, flat_map}
@@ -13,7 +13,7 @@ IsOpen bytes = slice_index bytes 0 ≡ 1
 abbrev pub IsNotOpen : List ℕ → Type 0
 IsNotOpen bytes = ¬ (IsOpen bytes)
 
--- what a header may say: a generation of 64 bits that isn't 0, and a lane's number of 16
+-- what a head may say: a generation of 64 bits that isn't 0, and a lane's number of 16 bits
 pub record IsHead (generation lane : ℕ) : Type 0 where
   pub some : 1 ≤ generation
   pub fits : generation < 2 ^ 64
@@ -23,7 +23,7 @@ pub record IsHead (generation lane : ℕ) : Type 0 where
 abbrev pub IsBody : List ℕ → Type 0
 IsBody body = (1 ≤ length body) × (length body < 2 ^ 32)
 
--- the header: an open gate, the generation and the lane's number
+-- the head of an open file: an open gate, the generation and the lane's number
 unfoldable pub header_text : ℕ → ℕ → List ℕ
 header_text generation lane = 1 ∷ to_le_bytes w64 generation ++ to_le_bytes w16 lane
 

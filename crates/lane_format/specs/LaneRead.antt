@@ -9,10 +9,11 @@ use Rattle.lane_format.specs.declared.segment.Segment.{Segment}
 use Rattle.lane_format.specs.declared.segment.LaneReadFault.{LaneReadFault}
 use Rattle.lane_format.specs.declared.segment.LaneReadFault.TheVariants.{Disk, Damaged, OutOfMemory}
 
--- the generation and the lane that the head of a file says
+-- the generation that the head of a file says
 abbrev pub generation_in : List ℕ → ℕ
 generation_in bytes = from_le_bytes w64 (take 8 (drop 1 bytes))
 
+-- the number of the lane that the head of a file says
 abbrev pub lane_in : List ℕ → ℕ
 lane_in bytes = from_le_bytes w16 (take 2 (drop 9 bytes))
 
@@ -75,7 +76,7 @@ lane_reads odd lane bytes (DamagedAt at) = IsOpen bytes × IsDamaged odd lane by
 lane_reads odd lane bytes (Holding generation batches) =
     IsOpen bytes × IsWhole odd lane bytes generation batches
 
--- what a result says of the file: nothing where the disk failed or memory ran out
+-- what the result of a reading says that the file reads as: none where the disk failed or memory ran out
 abbrev pub read_as : Result (Option Segment) LaneReadFault → Option LaneRead
 read_as (Ok None) = Some NotOpen
 read_as (Ok (Some segment)) = Some (Holding segment.generation segment.batches)

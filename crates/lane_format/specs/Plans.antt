@@ -21,7 +21,8 @@ reset_calls generation lane =
 abbrev pub append_calls : ℕ → List ℕ → List ChangeCall
 append_calls gate frame = WriteCall (gate + 1) frame ∷ SyncCall ∷ WriteCall gate (1 ∷ []) ∷ SyncCall ∷ []
 
--- where the writer's disk hadn't failed before, a call of the writer made the calls of this plan
+-- where the writer's disk hadn't failed before, a call of the writer made the calls of this plan, or those up
+-- to the one that failed
 abbrev pub Carries : {D T : Type 0} → Ghosts D → LaneWriter D → LaneWriter D → List ChangeCall
     → Result T LaneFault → Type 0
 Carries d old new plan result =

@@ -28,8 +28,7 @@ abbrev pub StopsAt : Option (List ℕ) → ℕ → ReadStop → Type 0
 StopsAt content gate stop =
     (at : ℕ) → stop ≡ Damaged at → (at ≡ gate) × ForSome content (λ bytes. LacksBatch (drop gate bytes))
 
--- a stop for the disk comes where exactly one call of it
--- failed, and nothing else leaves the count other than it was
+-- with a stop for the disk exactly one call of it has failed, and with any other result none
 abbrev pub StopHasCause : {T : Type 0} → ℕ → ℕ → Result T ReadStop → Type 0
 StopHasCause old new (Ok _) = new ≡ old
 StopHasCause old new (Err Disk) = new ≡ one_more old

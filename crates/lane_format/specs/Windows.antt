@@ -3,7 +3,7 @@ use Rattle.std.specs.Prelude.{◌≡◌, ℕ, ◌+◌, ◌≤◌, List, take, dr
 use Rattle.std.specs.Option.{ForSome}
 use Rattle.lane_format.specs.declared.window.Window.{Window}
 
--- it has the bytes of the file from its place on
+-- the window has the bytes of the file from its place on, at most 8,192 of them
 pub record IsWindow (content : Option (List ℕ)) (window : Window) : Type 0 where
   pub short : window.len ≤ 8192
   pub bytes : ForSome content (λ bytes. take window.len window.bytes ≡ take window.len (drop window.at bytes))

@@ -10,7 +10,7 @@ use Rattle.row_types.specs.Slot.{IsRowOf, slot_len, slot_text}
 use Rattle.op_log.specs.declared.change.RowChange.{RowChange}
 use Rattle.op_log.specs.declared.change.RowChange.TheVariants.{Put, Del}
 
--- a whole number in two's complement, the lowest byte first
+-- a whole number as 64 bits in two's complement, the lowest byte first
 unfoldable pub number_text : ℤ → List ℕ
 number_text number = to_le_bytes w64 (cast_unsigned w64 number)
 
@@ -24,15 +24,15 @@ change_text defs (Del table number) = 2 ∷ to_le_bytes w16 table ++ number_text
 abbrev pub body_text : List TableDef → List RowChange → List ℕ
 body_text defs changes = flat_map (change_text defs) changes
 
--- the bytes of a row that is set
+-- how many bytes a change takes that sets a row of this table
 abbrev pub put_bytes : List TableDef → ℕ → ℕ
 put_bytes defs table = 3 + slot_len (columns_at defs table)
 
--- the bytes of a row that is taken away
+-- how many bytes a change takes that takes a row away
 abbrev pub del_bytes : ℕ
 del_bytes = 11
 
--- its table is one of the schema's, and of at most 16 bits
+-- the number is that of a table of the schema, and has at most 16 bits
 abbrev pub IsTableNumber : List TableDef → ℕ → Type 0
 IsTableNumber defs table = (table < length defs) × (table < 2 ^ 16)
 

@@ -27,7 +27,7 @@ abbrev pub IsRead : Placed → Result Statement ℕ → Type 0
 IsRead text (Ok statement) = IsText IsStatement text.base text.text statement
 IsRead text (Err at) = IsFault IsStatement text.base text.text at
 
--- a statement that isn't allowed where it stands, which is behind BEGIN or not
+-- the refusal of a statement that isn't allowed where it stands, behind BEGIN or not
 abbrev pub misplaced : Bool → Statement → Option Refusal
 misplaced is_inside (statements.Create created) = Some refusals.OnlyFirst
 misplaced true statements.Begin = Some refusals.InBlock
@@ -61,7 +61,8 @@ IsLacking statement old reply new =
     (resource : Resource) × MayLack old statement resource
     × IsRefused (refusals.Resource resource) old reply new
 
--- a statement that is refused where it stands, or means what it does, or lacks a resource for it
+-- what a statement is answered with: the refusal of its place where there is one, else what it means, or that
+-- a resource for it is lacking
 abbrev pub AnswersUnless : Option Refusal → Statement → Tables → Reply → Tables → Type 0
 AnswersUnless (Some refusal) statement old reply new = IsRefused refusal old reply new
 AnswersUnless None statement old reply new =
@@ -73,15 +74,15 @@ Answers is_inside (Err at) old reply new = IsRefused (refusals.Syntax at) old re
 Answers is_inside (Ok statement) old reply new =
     AnswersUnless (misplaced is_inside statement) statement old reply new
 
--- as many transactions, checkpoints or turns as there may be were made
+-- the reply is SPENT: as many transactions, operations or checkpoints as there may be were made
 abbrev pub IsSpent : Reply → Type 0
 IsSpent reply = (limit : ℕ) × (reply ≡ Refused (refusals.Spent limit))
 
--- the log file is full
+-- the reply is LOG FULL
 abbrev pub IsLogFull : Reply → Type 0
 IsLogFull reply = (bytes limit : ℕ) × (reply ≡ Refused (refusals.Resource (LogFull bytes limit)))
 
--- a transaction isn't begun, or it is spent
+-- the reply is one with which no transaction is begun: SPENT or LOG FULL
 abbrev pub IsNotBegun : Reply → Type 0
 IsNotBegun reply = IsSpent reply ⊎ IsLogFull reply
 
@@ -164,13 +165,13 @@ Serial first [] last = first ≡ last
 Serial first (said ∷ more) last =
     (next : Tables) × block_means said.block first said.replies next × Serial next more last
 
--- the reply isn't that something is used up
+-- the reply is neither that a resource is lacking nor SPENT
 abbrev pub IsPlain : Reply → Type 0
 IsPlain reply =
     ((resource : Resource) → reply ≡ Refused (refusals.Resource resource) → ⊥)
     × ((limit : ℕ) → reply ≡ Refused (refusals.Spent limit) → ⊥)
 
--- the answer to a text where nothing is used up
+-- the answer to a text where no resource is lacking and nothing is spent
 abbrev pub PlainAnswer : Bool → Placed → Tables → Reply → Tables → Type 0
 PlainAnswer is_inside text old reply new =
     (read : Result Statement ℕ) × IsRead text read × Answers is_inside read old reply new × IsPlain reply

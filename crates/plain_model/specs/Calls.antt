@@ -151,7 +151,7 @@ pub record MayWrite (calls : List Call) (table lo hi : ℕ) : Type 0 where
 
 -- ---- Marks
 
--- an operation doesn't go back to fewer operations than these
+-- an operation doesn't go back to fewer operations than the mark counts
 abbrev pub KeepsMark : ℕ → RowOp → Type 0
 KeepsMark mark (UndoTo count) = mark ≤ count
 KeepsMark mark (Get table key answer) = ⊤
@@ -159,14 +159,14 @@ KeepsMark mark (Part table from upto answer) = ⊤
 KeepsMark mark (Put table row) = ⊤
 KeepsMark mark (Del table key answer) = ⊤
 
--- it is the number of the first so many operations, and none of the later ones goes back to fewer
+-- the mark counts so many of the first operations, and no later one goes back to fewer
 abbrev pub IsMark : List RowOp → ℕ → Type 0
 IsMark [] mark = mark ≡ 0
 IsMark (op ∷ ops) mark = (mark ≡ length (op ∷ ops)) ⊎ (KeepsMark mark op × IsMark ops mark)
 
 -- ---- Causes
 
--- what a lack of a resource may be given by
+-- a call that asked for this may give a lack of this resource
 abbrev pub MayGiveLack : Asked → Resource → Type 0
 MayGiveLack (AskLock name mode) (Locks held limit) = ⊤
 MayGiveLack (AskPut table row) (Pages used limit) = ⊤
@@ -177,7 +177,7 @@ MayGiveLack (AskBegin age) (LogFull bytes limit) = ⊤
 MayGiveLack AskCheckpoint (Busy oldest) = ⊤
 MayGiveLack _ _ = ⊥
 
--- an older transaction is in the way of a lock alone
+-- a call that asked for this may find an older transaction in its way: a lock alone
 abbrev pub MayGiveDie : Asked → Type 0
 MayGiveDie (AskLock name mode) = ⊤
 MayGiveDie _ = ⊥

@@ -27,7 +27,7 @@ value_at row n = unwrap_or (slice_get row n) (Int (pos 0))
 abbrev pub cell : List Column → List Value → List ℕ → Value
 cell columns row name = value_at row (column_number columns name)
 
--- what is in this order compares so
+-- two values in this order compare as a comparison asks
 abbrev pub allows : Comparison → Ordering → Bool
 allows Equal order = is_eq order
 allows NotEqual order = is_ne order
