@@ -248,7 +248,8 @@ fn refused_statements_are_undone(rt: HostRuntime) -> Result<(), Fail> {
             "ok / ok 4 / Range / 2 / 3 / 5 / rows 3 / ok",
         ),
         (
-            "BEGIN; DELETE FROM kv WHERE id = 2; INSERT INTO kv VALUES (2, 7), (5, 1), (4, 0); INSERT INTO kv VALUES (2, 8); COMMIT",
+            "BEGIN; DELETE FROM kv WHERE id = 2; INSERT INTO kv VALUES (2, 7), (5, 1), (4, 0); \
+                INSERT INTO kv VALUES (2, 8); COMMIT",
             "ok / ok 1 / DUPLICATE 4 / ok 1 / ok",
         ),
         (

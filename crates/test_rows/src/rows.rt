@@ -40,8 +40,10 @@ fn names_have_1_to_32_bytes(rt: HostRuntime) -> Result<(), Fail> {
 }
 
 /// A table of 33 columns.
-const MANY: &str =
-    "CREATE TABLE z (id INT, id INT, id INT, id INT, id INT, id INT, id INT, id INT, id INT, id INT, id INT, id INT, id INT, id INT, id INT, id INT, id INT, id INT, id INT, id INT, id INT, id INT, id INT, id INT, id INT, id INT, id INT, id INT, id INT, id INT, id INT, id INT, id INT)";
+const MANY: &str = "CREATE TABLE z (\
+    id INT, id INT, id INT, id INT, id INT, id INT, id INT, id INT, id INT, id INT, id INT, \
+    id INT, id INT, id INT, id INT, id INT, id INT, id INT, id INT, id INT, id INT, id INT, \
+    id INT, id INT, id INT, id INT, id INT, id INT, id INT, id INT, id INT, id INT, id INT)";
 
 #[test]
 fn tables_are_refused_in_order(rt: HostRuntime) -> Result<(), Fail> {

@@ -40,7 +40,8 @@ fn long_lists_are_read_whole(rt: HostRuntime) -> Result<(), Fail> {
         (
             ["CREATE TABLE t (a INT", ", b TEXT(3)", ")"],
             [
-                "Create(TableDef { name: Name { text: \"t\" }, columns: Items { items: [Column { name: Name { text: \"a\" }, kind: Int }",
+                "Create(TableDef { name: Name { text: \"t\" }, \
+                    columns: Items { items: [Column { name: Name { text: \"a\" }, kind: Int }",
                 ", Column { name: Name { text: \"b\" }, kind: Text(3) }",
                 "] }, keys: Items { items: [] } })",
             ],
@@ -80,7 +81,9 @@ fn long_lists_are_read_whole(rt: HostRuntime) -> Result<(), Fail> {
         (
             ["DELETE FROM t WHERE a = 1", " AND b < -2", ""],
             [
-                "Delete(Delete { table: Name { text: \"t\" }, conditions: Items { items: [Condition { column: Name { text: \"a\" }, comparison: Equal, value: Int(1) }",
+                "Delete(Delete { table: Name { text: \"t\" }, \
+                    conditions: Items { items: [\
+                    Condition { column: Name { text: \"a\" }, comparison: Equal, value: Int(1) }",
                 ", Condition { column: Name { text: \"b\" }, comparison: Less, value: Int(-2) }",
                 "] } })",
             ],
@@ -88,15 +91,20 @@ fn long_lists_are_read_whole(rt: HostRuntime) -> Result<(), Fail> {
         (
             ["UPDATE t SET a = 1", ", b = 'x'", ""],
             [
-                "Update(Update { table: Name { text: \"t\" }, changes: Items { items: [Change { column: Name { text: \"a\" }, first: Value(Int(1)), further: Items { items: [] } }",
-                ", Change { column: Name { text: \"b\" }, first: Value(Text(Text { text: \"x\" })), further: Items { items: [] } }",
+                "Update(Update { table: Name { text: \"t\" }, \
+                    changes: Items { items: [Change { column: Name { text: \"a\" }, first: Value(Int(1)), \
+                    further: Items { items: [] } }",
+                ", Change { column: Name { text: \"b\" }, first: Value(Text(Text { text: \"x\" })), \
+                    further: Items { items: [] } }",
                 "] }, conditions: Items { items: [] } })",
             ],
         ),
         (
             ["UPDATE t SET a = 1 - 2", " + b", ""],
             [
-                "Update(Update { table: Name { text: \"t\" }, changes: Items { items: [Change { column: Name { text: \"a\" }, first: Value(Int(1)), further: Items { items: [Step { is_minus: true, term: Value(Int(2)) }",
+                "Update(Update { table: Name { text: \"t\" }, \
+                    changes: Items { items: [Change { column: Name { text: \"a\" }, first: Value(Int(1)), \
+                    further: Items { items: [Step { is_minus: true, term: Value(Int(2)) }",
                 ", Step { is_minus: false, term: Column(Name { text: \"b\" }) }",
                 "] } }] }, conditions: Items { items: [] } })",
             ],

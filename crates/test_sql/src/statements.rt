@@ -21,7 +21,8 @@ fn each_alternative_is_read(rt: HostRuntime) -> Result<(), Fail> {
         "create table t (a INT, b INT PRIMARY KEY, c INT PRIMARY KEY)",
         "INSERT INTO kv VALUES (1, -2, 'it''s', ''), (-9223372036854775808, 9223372036854775807, 'a', -0)",
         "SELECT * FROM kv",
-        "SELECT id, n FROM kv WHERE id = 1 AND n <> 2 AND n != 3 AND n < 4 AND n <= 5 AND n > 6 AND t >= 'x' ORDER BY id DESC LIMIT 3",
+        "SELECT id, n FROM kv WHERE id = 1 AND n <> 2 AND n != 3 AND n < 4 AND n <= 5 AND n > 6 AND t >= 'x' \
+            ORDER BY id DESC LIMIT 3",
         "select id from kv order by id asc",
         "SELECT * FROM kv ORDER BY id LIMIT 0",
         "SELECT * FROM kv WHERE id=1AND n=2 LIMIT 9223372036854775807",
@@ -79,27 +80,45 @@ fn a_statement_has_its_parts_in_order(rt: HostRuntime) -> Result<(), Fail> {
     let rows = [
         (
             "create table t (a INT, b TEXT(3) primary key, c bigint PRIMARY KEY)",
-            "Create(TableDef { name: Name { text: \"t\" }, columns: Items { items: [Column { name: Name { text: \"a\" }, kind: Int }, Column { name: Name { text: \"b\" }, kind: Text(3) }, Column { name: Name { text: \"c\" }, kind: Int }] }, keys: Items { items: [1, 2] } })",
+            "Create(TableDef { name: Name { text: \"t\" }, \
+                columns: Items { items: [Column { name: Name { text: \"a\" }, kind: Int }, \
+                Column { name: Name { text: \"b\" }, kind: Text(3) }, \
+                Column { name: Name { text: \"c\" }, kind: Int }] }, keys: Items { items: [1, 2] } })",
         ),
         (
             "INSERT INTO t VALUES (-9223372036854775808, 'it''s'), (007)",
-            "Insert(Insert { table: Name { text: \"t\" }, rows: Items { items: [Items { items: [Int(-9223372036854775808), Text(Text { text: \"it's\" })] }, Items { items: [Int(7)] }] } })",
+            "Insert(Insert { table: Name { text: \"t\" }, \
+                rows: Items { items: [Items { items: [Int(-9223372036854775808), Text(Text { text: \"it's\" })] }, \
+                Items { items: [Int(7)] }] } })",
         ),
         (
             "SELECT b, a FROM t WHERE a != 1 AND b <= '' ORDER BY c DESC LIMIT 2",
-            "Select(Select { shown: Columns(Items { items: [Name { text: \"b\" }, Name { text: \"a\" }] }), table: Name { text: \"t\" }, conditions: Items { items: [Condition { column: Name { text: \"a\" }, comparison: NotEqual, value: Int(1) }, Condition { column: Name { text: \"b\" }, comparison: LessEqual, value: Text(Text { text: \"\" }) }] }, order: Some(Order { column: Name { text: \"c\" }, is_falling: true }), limit: Some(2) })",
+            "Select(Select { shown: Columns(Items { items: [Name { text: \"b\" }, Name { text: \"a\" }] }), \
+                table: Name { text: \"t\" }, conditions: Items { items: [\
+                Condition { column: Name { text: \"a\" }, comparison: NotEqual, value: Int(1) }, \
+                Condition { column: Name { text: \"b\" }, comparison: LessEqual, value: Text(Text { text: \"\" }) }] }, \
+                order: Some(Order { column: Name { text: \"c\" }, is_falling: true }), limit: Some(2) })",
         ),
         (
             "SELECT SUM(n), COUNT(*) FROM t",
-            "Totals(Totals { totals: Items { items: [Sum(Name { text: \"n\" }), Count] }, table: Name { text: \"t\" }, conditions: Items { items: [] } })",
+            "Totals(Totals { totals: Items { items: [Sum(Name { text: \"n\" }), Count] }, \
+                table: Name { text: \"t\" }, conditions: Items { items: [] } })",
         ),
         (
             "UPDATE t SET n = m - -1 + k, b = 'x'",
-            "Update(Update { table: Name { text: \"t\" }, changes: Items { items: [Change { column: Name { text: \"n\" }, first: Column(Name { text: \"m\" }), further: Items { items: [Step { is_minus: true, term: Value(Int(-1)) }, Step { is_minus: false, term: Column(Name { text: \"k\" }) }] } }, Change { column: Name { text: \"b\" }, first: Value(Text(Text { text: \"x\" })), further: Items { items: [] } }] }, conditions: Items { items: [] } })",
+            "Update(Update { table: Name { text: \"t\" }, \
+                changes: Items { items: [\
+                Change { column: Name { text: \"n\" }, first: Column(Name { text: \"m\" }), further: Items { items: [\
+                Step { is_minus: true, term: Value(Int(-1)) }, \
+                Step { is_minus: false, term: Column(Name { text: \"k\" }) }] } }, \
+                Change { column: Name { text: \"b\" }, first: Value(Text(Text { text: \"x\" })), \
+                further: Items { items: [] } }] }, conditions: Items { items: [] } })",
         ),
         (
             "DELETE FROM t WHERE n > 5",
-            "Delete(Delete { table: Name { text: \"t\" }, conditions: Items { items: [Condition { column: Name { text: \"n\" }, comparison: Greater, value: Int(5) }] } })",
+            "Delete(Delete { table: Name { text: \"t\" }, \
+                conditions: Items { items: [\
+                Condition { column: Name { text: \"n\" }, comparison: Greater, value: Int(5) }] } })",
         ),
         ("commit", "Commit"),
     ];
