@@ -297,7 +297,7 @@ fn a_delete_is_stopped(rt: HostRuntime) -> Result<(), Fail> {
 }
 
 #[test]
-fn a_select_is_stopped(rt: HostRuntime) -> Result<(), Fail> {
+fn a_select_of_rows_or_of_totals_is_stopped(rt: HostRuntime) -> Result<(), Fail> {
     let cases = [
         "lock 0 locks; all; begin lock commit",
         "lock 0 die; all; begin lock undo",
@@ -314,31 +314,10 @@ fn a_select_is_stopped(rt: HostRuntime) -> Result<(), Fail> {
         "chunk 2 memory; all; begin lock chunk chunk chunk undo",
         "commit 0 memory; all; begin lock chunk chunk chunk chunk commit undo",
     ];
-    let wrong = first_wrong(rt.alloc(), "SELECT id FROM kv", &cases)?;
-    assert!(rt; wrong.is_none(), "{wrong:?}");
-    Ok(())
-}
-
-#[test]
-fn totals_are_stopped(rt: HostRuntime) -> Result<(), Fail> {
-    let cases = [
-        "lock 0 locks; all; begin lock commit",
-        "lock 0 die; all; begin lock undo",
-        "lock 0 spent; all; begin lock",
-        "lock 0 fault; all; begin lock",
-        "lock 0 memory; all; begin lock undo",
-        "chunk 0 spent; all; begin lock chunk",
-        "chunk 2 spent; all; begin lock chunk chunk chunk",
-        "commit 0 spent; all; begin lock chunk chunk chunk chunk commit",
-        "chunk 0 fault; all; begin lock chunk",
-        "chunk 2 fault; all; begin lock chunk chunk chunk",
-        "commit 0 fault; all; begin lock chunk chunk chunk chunk commit",
-        "chunk 0 memory; all; begin lock chunk undo",
-        "chunk 2 memory; all; begin lock chunk chunk chunk undo",
-        "commit 0 memory; all; begin lock chunk chunk chunk chunk commit undo",
-    ];
-    let wrong = first_wrong(rt.alloc(), "SELECT COUNT(*) FROM kv", &cases)?;
-    assert!(rt; wrong.is_none(), "{wrong:?}");
+    for texts in ["SELECT id FROM kv", "SELECT COUNT(*) FROM kv"] {
+        let wrong = first_wrong(rt.alloc(), texts, &cases)?;
+        assert!(rt; wrong.is_none(), "{texts}: {wrong:?}");
+    }
     Ok(())
 }
 
