@@ -104,29 +104,29 @@ check_many_rows() {
     mkdir "$folder"
     {
         printf '%ssession 1\n' "$kv_setup"
-        for ((i = 0; i < 100; i++)); do
+        for ((i = 0; i < 200; i++)); do
             printf 'INSERT INTO kv VALUES '
             seq -s ', ' -f "(${i}%03g, 1)" 0 999 | sed 's/$/;/'
         done
         echo 'SELECT COUNT(*), SUM(n) FROM kv;'
-        for ((i = 0; i < 100; i++)); do
+        for ((i = 0; i < 200; i++)); do
             echo "UPDATE kv SET n = n + 1 WHERE id >= ${i}000 AND id < ${i}500;"
         done
-        echo 'DELETE FROM kv WHERE id >= 99000;'
+        echo 'DELETE FROM kv WHERE id >= 199000;'
         echo 'SELECT COUNT(*), SUM(n) FROM kv;'
     } >"$fast/script"
     {
         printf '%s' "$kv_shown"
-        yes 'ok 1000' | head -n 100
-        printf '100000, 100000\nrows 1\n'
-        yes 'ok 500' | head -n 100
-        printf 'ok 1000\n99000, 148500\nrows 1\n'
+        yes 'ok 1000' | head -n 200
+        printf '200000, 200000\nrows 1\n'
+        yes 'ok 500' | head -n 200
+        printf 'ok 1000\n199000, 298500\nrows 1\n'
     } >"$scratch/wanted"
     run run "$folder" <"$fast/script" >"$scratch/stdout"
     want_status 0
     want_output "$scratch/wanted"
     printf '%ssession 1\nSELECT COUNT(*), SUM(n) FROM kv;\n' "$kv_setup" >"$fast/script"
-    printf '%s99000, 148500\nrows 1\n' "$kv_shown" >"$scratch/wanted"
+    printf '%s199000, 298500\nrows 1\n' "$kv_shown" >"$scratch/wanted"
     run run "$folder" <"$fast/script" >"$scratch/stdout"
     want_status 0
     want_output "$scratch/wanted"

@@ -1,5 +1,5 @@
 // What no clause says: that a log file is opened with ample memory, or found damaged, whatever its bytes.
-use crate::program::{disk, run};
+use crate::program::disk;
 use disk_core::MemDisk;
 use exec_keeper::schema;
 use list_store::ListStore;
@@ -167,34 +167,6 @@ fn a_read_that_fails_names_the_file(rt: HostRuntime) -> Result<(), Fail> {
             "open"
         };
         assert_eq!(rt; opening(alloc, disk)?.as_str(), wants, "{call}");
-    }
-    Ok(())
-}
-
-/// What a script reads of both tables over a log file.
-fn rows_in(alloc: Global, bytes: &[u8]) -> Result<String, Fail> {
-    let script = "setup\nCREATE TABLE kv (id INT PRIMARY KEY, n INT);\n\
-        CREATE TABLE t (t TEXT(2), id INT PRIMARY KEY);\nsession 1\nSELECT * FROM kv;\nSELECT * FROM t;\n";
-    let ran = run(alloc, disk(alloc, bytes, 4000)?, script)?;
-    let text = str::from_utf8(ran.sink.bytes()).unwrap_or("");
-    let rows = text
-        .strip_prefix("setup\nok\nok\nsession 1\n")
-        .unwrap_or("no rows");
-    Ok(String::from_str(alloc, rows)?)
-}
-
-#[test]
-fn a_log_is_played_from_its_first_batch_on(rt: HostRuntime) -> Result<(), Fail> {
-    let alloc = rt.alloc();
-    for (bodies, wants) in [
-        ([].as_slice(), "rows 0\nrows 0\n"),
-        (&[PUT], "7, 9\nrows 1\nrows 0\n"),
-        (&[PUT, PUT, DEL], "rows 0\nrows 0\n"),
-        (&[TEXT, BOTH, PUT], "7, 9\nrows 1\n'a', 7\nrows 1\n"),
-    ] {
-        let bytes = log_of(alloc, bodies, b"\0\x01left")?;
-        let found = rows_in(alloc, &bytes)?;
-        assert_eq!(rt; found.as_str(), wants, "{bytes:?}");
     }
     Ok(())
 }
