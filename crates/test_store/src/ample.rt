@@ -5,7 +5,7 @@ use std::alloc::{AllocError, Global};
 use std::test::Fail;
 
 /// Scripts, with the status of their run and what it prints.
-const KINDS: [(&str, u8, &str); 13] = [
+const KINDS: [(&str, u8, &str); 10] = [
     ("", 0, ""),
     ("setup\n", 0, "setup\n"),
     ("session 1\n", 0, "session 1\n"),
@@ -39,31 +39,6 @@ const KINDS: [(&str, u8, &str); 13] = [
             DELETE FROM t WHERE id = 2;\nSELECT * FROM t;\n",
         0,
         "setup\nok\nok 2\nsession 1\n'it''s'\nrows 1\nok 2\nsession 2\n1, 2\nrows 1\nok 1\n-1, 'x'\nrows 1\n",
-    ),
-    (
-        "setup\nCREATE TABLE kv (id INT PRIMARY KEY, n INT);\nsession 1\nBEGIN;\n\
-            INSERT INTO kv VALUES (1, 2);\n\
-            INSERT INTO kv VALUES (2, 2), (1, 3);\nROLLBACK;\nBEGIN;\nINSERT INTO kv VALUES (4, 4);\n\
-            session 2\nSELECT * FROM kv;\nBEGIN;\nBEGIN;\nCOMMIT;\nCOMMIT;\n",
-        0,
-        "setup\nok\nsession 1\nok\nok 1\nrefused DUPLICATE 1\nok\nok\nok 1\nsession 2\nrows 0\nok\n\
-            refused IN BLOCK\nok\nrefused NO BLOCK\n",
-    ),
-    (
-        "setup\nCREATE TABLE w (id INT PRIMARY KEY, a TEXT(4000));\nsession 1\nUPDATE w SET b = 1;\n\
-            INSERT INTO w VALUES (1);\nINSERT INTO w VALUES ('a', 1);\nUPDATE w SET id = 1;\n\
-            UPDATE w SET a = '', a = '';\nSELECT * FROM w ORDER BY a;\n",
-        0,
-        "setup\nok\nsession 1\nrefused NO COLUMN\nrefused COUNT 1 2\nrefused KIND\nrefused KEY FIXED\n\
-            refused TWICE\nrefused ORDER\n",
-    ),
-    (
-        "setup\nCREATE TABLE s (id INT PRIMARY KEY, a TEXT(3));\nsession 1\n\
-            INSERT INTO s VALUES (1, 'abcd');\n\
-            INSERT INTO s VALUES (9223372036854775807, 'abc');\nSELECT SUM(id) FROM s;\n\
-            INSERT INTO s VALUES (1, '');\nSELECT SUM(id) FROM s;\n",
-        0,
-        "setup\nok\nsession 1\nrefused LENGTH 4 3\nok 1\n9223372036854775807\nrows 1\nok 1\nrefused RANGE\n",
     ),
 ];
 

@@ -67,38 +67,21 @@ const LONG_ROW: &[u8] = b"\x01\x01\0\x01\x01\0a\0\x07\0\0\0\0\0\0\0\0\0\x01";
 
 const NO_TABLE: &[u8] = b"\x02\x02\0\x07\0\0\0\0\0\0\0";
 
-const NO_KIND: &[u8] = b"\x03\0\0\x07\0\0\0\0\0\0\0";
-
-const NO_ROW: &[u8] = b"\x01\0\0\0\x07\0\0\0\0\0\0\0\x09\0\0\0\0\0\0\0";
-
 #[test]
 fn a_log_file_is_opened_or_damaged_at_a_place(rt: HostRuntime) -> Result<(), Fail> {
     let alloc = rt.alloc();
     for (bodies, end, wants) in [
         ([].as_slice(), b"\0".as_slice(), "open"),
-        (&[PUT], b"\0", "open"),
-        (&[PUT, PUT, DEL], b"\x05left", "open"),
-        (&[PUT, BOTH, TEXT, PUT, BOTH], b"\0", "open"),
-        // The first byte of what is no change, in the first body and in a later one.
-        (&[NO_TABLE], b"\0", "lane0.even is damaged at 16"),
-        (&[PUT, NO_TABLE], b"\0", "lane0.even is damaged at 41"),
-        (&[PUT, NO_KIND], b"\0", "lane0.even is damaged at 41"),
-        (&[PUT, NO_ROW], b"\0", "lane0.even is damaged at 41"),
+        (&[PUT, BOTH, TEXT, PUT, BOTH], b"\x05left", "open"),
+        // The first byte of what is no change.
         (&[PUT, LONG_TEXT], b"\0", "lane0.even is damaged at 41"),
         (&[PUT, NO_TEXT], b"\0", "lane0.even is damaged at 41"),
         (&[PUT, NO_UTF8], b"\0", "lane0.even is damaged at 41"),
         (&[PUT, LONG_ROW], b"\0", "lane0.even is damaged at 41"),
-        (&[PUT, &DEL[..10]], b"\0", "lane0.even is damaged at 41"),
         (&[PUT, &BOTH[..30]], b"\0", "lane0.even is damaged at 61"),
-        (&[PUT, &[0]], b"\0", "lane0.even is damaged at 41"),
         // The first byte of a change that takes an absent row away.
-        (&[DEL], b"\0", "lane0.even is damaged at 16"),
         (&[PUT, DEL, DEL], b"\0", "lane0.even is damaged at 57"),
-        (&[BOTH, DEL, PUT], b"\0", "lane0.even is damaged at 52"),
         (&[PUT, TWICE], b"\0", "lane0.even is damaged at 72"),
-        // No gate behind the last batch.
-        (&[], b"", "lane0.even is damaged at 11"),
-        (&[PUT, BOTH], b"", "lane0.even is damaged at 11"),
         // The first fault counts: that of the lane, then that of a body, then the gate.
         (
             &[NO_TABLE],
@@ -119,26 +102,6 @@ fn a_file_with_another_head_is_damaged_there(rt: HostRuntime) -> Result<(), Fail
     let alloc = rt.alloc();
     for (bytes, wants) in [
         (b"".as_slice(), "open"),
-        (b"\0", "open"),
-        (b"\x02\x04\0\0\0\0\0\0\0\x01\0", "open"),
-        (b"\x01\x02\0\0\0\0\0\0\0\0", "lane0.even is damaged at 0"),
-        (b"\x01\0\0\0\0\0\0\0\0\0\0\0", "lane0.even is damaged at 1"),
-        (
-            b"\x01\x03\0\0\0\0\0\0\0\0\0\0",
-            "lane0.even is damaged at 1",
-        ),
-        (
-            b"\x01\x04\0\0\0\0\0\0\0\0\0\0",
-            "lane0.even is damaged at 1",
-        ),
-        (
-            b"\x01\x02\0\0\0\0\0\0\x01\0\0\0",
-            "lane0.even is damaged at 1",
-        ),
-        (
-            b"\x01\x02\0\0\0\0\0\0\0\x01\0\0",
-            "lane0.even is damaged at 9",
-        ),
         // The generation comes before a body that is no batch and before the gate.
         (
             b"\x01\x04\0\0\0\0\0\0\0\0\0\x01\x01\0\0\0\0",
