@@ -40,7 +40,7 @@ impl State {
         answer
     }
 
-    /// All rows of a range of keys.
+    /// The first rows of a range of keys.
     pub fn chunk(&mut self, table: u16, range: Range) -> Result<RowPiece, Stop>
         requires kept { IsState self.old }
         requires running { self.old.running ≡ true }
@@ -50,9 +50,10 @@ impl State {
         ensures kept { (calls : List Call) → IsKept self.old calls → IsKept self.new
             (told (λ piece. Did (Part table range.lo.number piece.upto.number piece.rows))
             (AskChunk table range) result calls) }
-        ensures upto { IfOk result (λ piece. piece.upto ≡ range.hi) }
-        ensures rows { IfOk result (λ piece.
-            AllByRecursion (IsRowAt (defs_in self.old) table range.lo.number range.hi.number) piece.rows) }
+        ensures low { IfOk result (λ piece. range.lo.number ≤ piece.upto.number) }
+        ensures high { IfOk result (λ piece. piece.upto.number ≤ range.hi.number) }
+        ensures rows { IfOk result (λ piece. AllByRecursion
+            (IsRowAt (defs_in self.old) table range.lo.number piece.upto.number) piece.rows) }
         ensures cause { IfErr result (MayGive (AskChunk table range)) }
     {
         let answer = self.rows.chunk(table, range);

@@ -35,3 +35,7 @@ rows_of entries = filter_map (λ e. e.1) entries
 -- what stands at the keys from one to another, both among them
 abbrev pub entries_between : Entries → ℕ → ℕ → Entries
 entries_between entries lo hi = within nat_cmp (Included lo) (Included hi) entries
+
+-- the most rows of a piece of a range
+abbrev pub most_rows : ℕ
+most_rows = 256

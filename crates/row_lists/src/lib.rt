@@ -5,4 +5,4 @@
 mod row_list;
 
 pub use causes::OutOfMemory;
-pub use row_list::{Before, RowList};
+pub use row_list::{Before, Piece, RowList};

@@ -1,11 +1,11 @@
 // The rows of a table by their keys.
-ghost use Rattle.std.specs.Prelude.{◌≡◌, ◌==◌, ◌&&◌, ℕ, if◌then◌else◌, Some, None, is_some, is_none, IfOk};
-ghost use Rattle.std.specs.Prelude.{OnOk, OnErr, IsSome};
+ghost use Rattle.std.specs.Prelude.{◌≡◌, ◌==◌, ◌≤◌, ◌⊎◌, ◌&&◌, ℕ, if◌then◌else◌, Some, None, is_some, is_none};
+ghost use Rattle.std.specs.Prelude.{IfOk, OnOk, OnErr, IsSome, length};
 ghost use Rattle.std.specs.List.Sorted.{IsStrictlySortedBy};
 ghost use Rattle.std.specs.Map.{keys_of};
 ghost use Rattle.std.specs.Ordering.{nat_cmp};
 ghost use Rattle.key_space.specs.Ranges.{IsNotEmpty};
-ghost use Rattle.row_lists.specs.Held.{at_key, entries_between, row_of, rows_of, stood};
+ghost use Rattle.row_lists.specs.Held.{at_key, entries_between, most_rows, row_of, rows_of, stood};
 
 use crate::OutOfMemory;
 use key_space::{Key, Range};
@@ -39,9 +39,19 @@ pub enum Before {
     Had(Option<Row>),
 }
 
+/// Copies of the rows of a range of keys from its beginning up to `upto`, in the order of their keys.
+#[derive(Drop)]
+pub struct Piece {
+    pub upto: Key,
+    pub rows: Items<Row>,
+}
+
+/// The most rows of a piece.
+const MOST_ROWS: usize = 256;
+
 impl RowList {
     ghost use Rattle.key_space.specs.Ranges.{IsNotEmpty};
-    ghost use Rattle.row_lists.specs.Held.{at_key, entries_between, row_of, rows_of, stood};
+    ghost use Rattle.row_lists.specs.Held.{at_key, entries_between, most_rows, row_of, rows_of, stood};
 
     /// No keys.
     pub fn new(alloc: Global) -> RowList
@@ -76,21 +86,34 @@ impl RowList {
         }
     }
 
-    /// Copies of the rows of a range of keys, in the order of their keys. `OutOfMemory`: there is none for
-    /// the copies.
-    pub fn rows_between(&self, alloc: Global, range: Range) -> Result<Items<Row>, OutOfMemory>
+    /// The first rows of a range of keys: 256, where it has so many, and else all, up to its end. Only keys
+    /// up to the piece's last are visited. `OutOfMemory`: there is none for the copies.
+    pub fn rows_between(&self, alloc: Global, range: Range) -> Result<Piece, OutOfMemory>
         requires { IsNotEmpty range }
-        ensures rows { IfOk result (λ rows. rows
-            ≡ rows_of (entries_between self.now range.lo.number range.hi.number)) }
+        ensures low { IfOk result (λ piece. range.lo.number ≤ piece.upto.number) }
+        ensures high { IfOk result (λ piece. piece.upto.number ≤ range.hi.number) }
+        ensures rows { IfOk result (λ piece. piece.rows
+            ≡ rows_of (entries_between self.now range.lo.number piece.upto.number)) }
+        ensures few { IfOk result (λ piece. length piece.rows ≤ most_rows) }
+        ensures full { IfOk result (λ piece. (piece.upto ≡ range.hi) ⊎ (length piece.rows ≡ most_rows)) }
         ensures rising { IsStrictlySortedBy nat_cmp (keys_of self.now) }
     {
         let mut rows = Vec::new(alloc);
-        for (_, row) in self.rows.range(range.lo.number..=range.hi.number) {
+        for (key, row) in self.rows.range(range.lo.number..=range.hi.number) {
             if let Some(row) = row {
                 rows.push(row.copy()?)?;
+                if rows.len() == MOST_ROWS {
+                    return Ok(Piece {
+                        upto: Key { number: *key },
+                        rows: Items::from_vec(rows),
+                    });
+                }
             }
         }
-        Ok(Items::from_vec(rows))
+        Ok(Piece {
+            upto: range.hi,
+            rows: Items::from_vec(rows),
+        })
     }
 
     /// Sets the row of a key, and says what stood there. `OutOfMemory`: there is none for a new key, and all

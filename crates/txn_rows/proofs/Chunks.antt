@@ -18,6 +18,7 @@ use Rattle.row_types.specs.Tables.{AreRising}
 use Rattle.key_space.specs.Plays.{Rows, row_at, rows_between}
 use Rattle.plain_model.specs.CallRows.{IsRowAt}
 use Rattle.row_lists.specs.Held.{Entries, at_key, row_of, rows_of, entries_between}
+use Rattle.row_lists.proofs.Keys.{inside_is, less_is}
 
 -- ---- tests on keys
 
@@ -31,42 +32,6 @@ at_is q k = one (nat_lt q k) refl
     one : (b : Bool) → nat_lt q k ≡ b → is_eq (cond b Less (cond (q == k) Equal Greater)) ≡ eqb q k
     one true e = let less = ltb-true q k e in grind arith
     one false e = two (q == k) refl
-
-inside_is : (lo hi q : ℕ) → (is_le (nat_cmp lo q) && not (is_lt (nat_cmp hi q))) ≡ (nat_le lo q && nat_le q hi)
-inside_is lo hi q = ap (λ b. b && not (is_lt (nat_cmp hi q))) low ∙ ap (λ b. nat_le lo q && b) high
-  where
-    low_two : (b : Bool) → (lo == q) ≡ b → nat_lt lo q ≡ false → is_le (cond b Equal Greater) ≡ nat_le lo q
-    low_two true e f = let same = eqb-true lo q e in grind arith
-    low_two false e f = let other = eqb-false lo q e in grind arith
-
-    low_one : (b : Bool) → nat_lt lo q ≡ b → is_le (cond b Less (cond (lo == q) Equal Greater)) ≡ nat_le lo q
-    low_one true e = let less = ltb-true lo q e in grind arith
-    low_one false e = low_two (lo == q) refl e
-
-    low : is_le (nat_cmp lo q) ≡ nat_le lo q
-    low = low_one (nat_lt lo q) refl
-
-    high_two : (b : Bool) → (hi == q) ≡ b → nat_lt hi q ≡ false → not (is_lt (cond b Equal Greater)) ≡ nat_le q hi
-    high_two true e f = let same = eqb-true hi q e in grind arith
-    high_two false e f = grind arith
-
-    high_one : (b : Bool) → nat_lt hi q ≡ b → not (is_lt (cond b Less (cond (hi == q) Equal Greater))) ≡ nat_le q hi
-    high_one true e = let less = ltb-true hi q e in grind arith
-    high_one false e = high_two (hi == q) refl e
-
-    high : not (is_lt (nat_cmp hi q)) ≡ nat_le q hi
-    high = high_one (nat_lt hi q) refl
-
-less_is : (x y : ℕ) → nat_cmp x y ≡ Less → x < y
-less_is x y e = one (nat_lt x y) refl e
-  where
-    two : (b : Bool) → cond b Equal Greater ≡ Less → ⊥
-    two true e = cc
-    two false e = cc
-
-    one : (b : Bool) → nat_lt x y ≡ b → cond b Less (cond (x == y) Equal Greater) ≡ Less → x < y
-    one true t e = ltb-true x y t
-    one false t e = absurd (two (x == y) e)
 
 -- ---- one key
 

@@ -1,5 +1,5 @@
 // The calls on rows in a transaction.
-ghost use Rattle.std.specs.Prelude.{◌≡◌, ◌<◌, ◌≤◌, ◌+◌, ℕ, List, ◌∷◌, length, Option, None, Some, IfOk};
+ghost use Rattle.std.specs.Prelude.{◌≡◌, ◌<◌, ◌≤◌, ◌⊎◌, ◌+◌, ℕ, List, ◌∷◌, length, Option, None, Some, IfOk};
 ghost use Rattle.std.specs.Prelude.{IfErr, IfSome, OnOk};
 ghost use Rattle.std.specs.List.{AllByRecursion};
 ghost use Rattle.row_types.specs.Schema.{columns_at};
@@ -10,6 +10,7 @@ ghost use Rattle.key_space.specs.Ranges.{IsNotEmpty};
 ghost use Rattle.plain_model.specs.Calls.{IsMark};
 ghost use Rattle.plain_model.specs.CallRows.{IsRowAt};
 ghost use Rattle.op_log.specs.Changes.{body_text, del_bytes, put_bytes};
+ghost use Rattle.row_lists.specs.Held.{most_rows};
 ghost use Rattle.call_log.specs.Standing.{standing};
 ghost use Rattle.call_log.specs.History.{txn_limit};
 
@@ -47,7 +48,7 @@ impl TxnRows {
         Ok(row)
     }
 
-    /// All rows of a range of keys.
+    /// The first rows of a range of keys: 256, where it has so many, and else all, up to its end.
     pub fn chunk(&mut self, table: u16, range: Range) -> Result<RowPiece, Stop>
         requires running { IsRunning self.old }
         requires table { table < length (defs_of self.old) }
@@ -58,16 +59,19 @@ impl TxnRows {
             (Part table range.lo.number piece.upto.number piece.rows ∷ ops)) }
         ensures stopped { (first : Tables) (ops : List RowOp) → Running self.old first ops
             → IfErr result (LeftBy self.new first ops None) }
-        ensures upto { IfOk result (λ piece. piece.upto ≡ range.hi) }
+        ensures low { IfOk result (λ piece. range.lo.number ≤ piece.upto.number) }
+        ensures high { IfOk result (λ piece. piece.upto.number ≤ range.hi.number) }
         ensures rows { IfOk result (λ piece. AllByRecursion
-            (IsRowAt (defs_of self.old) table range.lo.number range.hi.number) piece.rows) }
+            (IsRowAt (defs_of self.old) table range.lo.number piece.upto.number) piece.rows) }
+        ensures few { IfOk result (λ piece. length piece.rows ≤ most_rows) }
+        ensures full { IfOk result (λ piece. (piece.upto ≡ range.hi) ⊎ (length piece.rows ≡ most_rows)) }
     {
         let count = self.next_count()?;
-        let rows = self.lists[table as usize].rows_between(self.alloc, range)?;
+        let piece = self.lists[table as usize].rows_between(self.alloc, range)?;
         self.count = count;
         Ok(RowPiece {
-            upto: range.hi,
-            rows,
+            upto: piece.upto,
+            rows: piece.rows,
         })
     }
 

@@ -1,6 +1,10 @@
-use Rattle.std.proofs.Common.{◌≡◌, ◌++◌}
-use Rattle.row_lists.specs.Held.{rows_of}
+use Rattle.std.proofs.Common.{◌≡◌, ◌<◌, length, map}
+use Rattle.std.specs.Map.Iter.{deref_pair}
+use Rattle.row_lists.specs.Held.{rows_of, most_rows}
 use Rattle.row_lists.proofs.row_list.RowList.rows_between.Given as goal
 
-abbrev pub invariant-loop-row : goal.invariant-loop-row
-invariant-loop-row l = l.rows.items ++ rows_of l.row-iterator ≡ rows_of l.initial.row-iterator
+abbrev pub invariant-loop-key : goal.invariant-loop-key
+invariant-loop-key l = record {
+  rows_are : l.rows.items ≡ rows_of (map deref_pair l.yielded);
+  few : length l.rows.items < most_rows;
+}

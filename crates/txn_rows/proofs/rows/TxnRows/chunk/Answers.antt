@@ -24,11 +24,11 @@ returns-clause-done c = λ first ops runs.
     let lists_len = now.lists_len in
     let list = c.index.ensures ∙ index_is r.lists.items c.args.table c.index.result.now [] (omega arith) in
     let lo = c.args.range.lo.number in
-    let hi = c.args.range.hi.number in
-    let listed = c.in_ok-rows.ensures.rows ∙ ap (λ (es : Entries). rows_of (entries_between es lo hi)) list in
+    let upto = c.in_ok-piece.piece.upto.number in
+    let listed = c.in_ok-piece.ensures.rows ∙ ap (λ (es : Entries). rows_of (entries_between es lo upto)) list in
     let sorted = subst (λ (es : Entries). IsStrictlySortedBy nat_cmp (keys_of es)) list c.rows_between.ensures.rising in
-    counted r.schema r.lists.items r.undo.steps.items r.frame.items c.in_ok-count.count (r.count + 1) first (Part c.args.table lo hi c.in_ok-rows.rows ∷ ops)
-    (part_more r.schema r.lists.items r.undo.steps.items r.frame.items r.count first ops now c.args.table inside lo hi c.in_ok-rows.rows listed sorted) c.in_ok-count.ensures.ok.0
+    counted r.schema r.lists.items r.undo.steps.items r.frame.items c.in_ok-count.count (r.count + 1) first (Part c.args.table lo upto c.in_ok-piece.piece.rows ∷ ops)
+    (part_more r.schema r.lists.items r.undo.steps.items r.frame.items r.count first ops now c.args.table inside lo upto c.in_ok-piece.piece.rows listed sorted) c.in_ok-count.ensures.ok.0
 
 pub returns-clause-rows : goal.returns-clause-rows
 returns-clause-rows c =
@@ -42,8 +42,8 @@ returns-clause-rows c =
     let lists_len = now.lists_len in
     let list = c.index.ensures ∙ index_is r.lists.items c.args.table c.index.result.now [] (omega arith) in
     let lo = c.args.range.lo.number in
-    let hi = c.args.range.hi.number in
-    let listed = c.in_ok-rows.ensures.rows ∙ ap (λ (es : Entries). rows_of (entries_between es lo hi)) list in
+    let upto = c.in_ok-piece.piece.upto.number in
+    let listed = c.in_ok-piece.ensures.rows ∙ ap (λ (es : Entries). rows_of (entries_between es lo upto)) list in
     let sorted = subst (λ (es : Entries). IsStrictlySortedBy nat_cmp (keys_of es)) list c.rows_between.ensures.rising in
-    subst (λ (x : TxnRows). AllByRecursion (IsRowAt x.schema c.args.table lo hi) c.in_ok-rows.rows) same
-    (part_rows r.schema r.lists.items (latest (moments_of first ops)) c.args.table lo hi c.in_ok-rows.rows now.holds inside listed sorted)
+    subst (λ (x : TxnRows). AllByRecursion (IsRowAt x.schema c.args.table lo upto) c.in_ok-piece.piece.rows) same
+    (part_rows r.schema r.lists.items (latest (moments_of first ops)) c.args.table lo upto c.in_ok-piece.piece.rows now.holds inside listed sorted)
