@@ -133,6 +133,54 @@ check_many_rows() {
     end_case many_rows
 }
 
+# 700 rows are read in pieces of 256: ranges that end where a piece does, a row before and a row behind, and pieces between
+# whose rows lie the keys that the transaction has taken rows away from.
+check_rows_in_pieces() {
+    local folder="$fast/rows_in_pieces" ends=(255 256 257 511 512 513 700 701) end count
+    mkdir "$folder"
+    {
+        printf '%ssession 1\nINSERT INTO kv VALUES ' "$kv_setup"
+        seq -s ', ' -f '(%.0f, 1)' 700 | sed 's/$/;/'
+        for end in "${ends[@]}"; do
+            echo "SELECT id FROM kv WHERE id <= $end;"
+            echo "SELECT id FROM kv LIMIT $end;"
+            echo "SELECT COUNT(*), SUM(id) FROM kv WHERE id <= $end;"
+            echo "UPDATE kv SET n = n + 1 WHERE id <= $end;"
+        done
+        echo 'SELECT COUNT(*), SUM(n) FROM kv WHERE id > 256 AND id <= 512;'
+        echo 'SELECT id FROM kv WHERE id > 188 ORDER BY id DESC LIMIT 600;'
+        echo 'BEGIN; DELETE FROM kv WHERE id > 100 AND id <= 300;'
+        echo 'SELECT COUNT(*), SUM(id) FROM kv; SELECT id FROM kv WHERE id <= 456; DELETE FROM kv WHERE id <= 456;'
+        echo 'SELECT COUNT(*), SUM(id) FROM kv; ROLLBACK;'
+        echo 'DELETE FROM kv WHERE id <= 512; SELECT id FROM kv; DELETE FROM kv WHERE id <> 700;'
+    } >"$fast/script"
+    {
+        printf '%sok 700\n' "$kv_shown"
+        for end in "${ends[@]}"; do
+            count=$((end < 700 ? end : 700))
+            seq "$count"
+            echo "rows $count"
+            seq "$count"
+            echo "rows $count"
+            printf '%d, %d\nrows 1\nok %d\n' "$count" $((count * (count + 1) / 2)) "$count"
+        done
+        # Of the keys from 257 to 512 the first was changed six times, those up to 511 five times, and the last four times.
+        printf '256, %d\nrows 1\n' $((7 + 254 * 6 + 5))
+        seq 700 -1 189
+        printf 'rows 512\nok\nok 200\n500, %d\nrows 1\n' $((700 * 701 / 2 - 300 * 301 / 2 + 100 * 101 / 2))
+        seq 100
+        seq 301 456
+        printf 'rows 256\nok 256\n244, %d\nrows 1\nok\nok 512\n' $((700 * 701 / 2 - 456 * 457 / 2))
+        seq 513 700
+        printf 'rows 188\nok 187\n'
+    } >"$scratch/wanted"
+    run run "$folder" <"$fast/script" >"$scratch/stdout"
+    want_status 0
+    want_output "$scratch/wanted"
+    step "$folder" 0 "$kv_setup"$'session 1\nSELECT * FROM kv;\n' "$kv_shown"$'700, 3\nrows 1\n'
+    end_case rows_in_pieces
+}
+
 # With 20 MB of memory not all of 200,000 rows fit: the block that finds none is undone, it and those behind it are
 # stopped, and the next session runs. What was answered is in the file.
 check_out_of_memory() {
