@@ -26,6 +26,8 @@ pub(crate) struct Step {
 #[derive(Drop)]
 pub(crate) struct Undo {
     pub(crate) steps: Vec<Step>,
+    /// Whether the transaction may have left a key without a row.
+    pub(crate) has_taken: bool,
 }
 
 impl Undo {
@@ -39,6 +41,7 @@ impl Undo {
     {
         Undo {
             steps: Vec::new(alloc),
+            has_taken: false,
         }
     }
 
@@ -88,6 +91,7 @@ impl Undo {
         ensures lists { OnErr result (lists.new ≡ lists.old) }
     {
         self.steps.reserve(1)?;
+        self.has_taken = true;
         let before = lists[table as usize].take(key);
         self.steps.push_reserved(Step {
             count,
@@ -136,6 +140,11 @@ impl Undo {
         ensures steps { self.new.steps.items ≡ [] }
         ensures lists { KeepsRows lists.old lists.new }
     {
+        if !self.has_taken {
+            self.steps.clear();
+            return;
+        }
+        self.has_taken = false;
         while let Some(step) = self.steps.pop() {
             forget(lists, step.table, step.key);
         }
