@@ -1,5 +1,6 @@
 -- That what is said to be lacking or spent is what a call gave.
 use Rattle.std.proofs.Common.{◌≡◌, inl, inr, ℕ, true, not, List, [], ◌∷◌, refl, sym, subst}
+use Rattle.std.specs.Prelude.{IsTrue}
 use Rattle.std.specs.List.{AllByRecursion}
 use Rattle.plain_model.specs.declared.reply.Reply.{Reply}
 use Rattle.plain_model.specs.declared.reply.Reply.TheVariants.{Done, Many, Rows, Opened as OpenedReply, Refused}
@@ -8,7 +9,7 @@ use Rattle.plain_model.specs.declared.reply.Refusal.TheVariants as refusals
 use Rattle.plain_model.specs.declared.stop.Stop.{Stop}
 use Rattle.plain_model.specs.declared.stop.Stop.TheVariants as stops
 use Rattle.plain_model.specs.declared.stop.Resource.{Resource}
-use Rattle.plain_model.specs.Calls.{Asked, AskLock, Call, Did, Stopped}
+use Rattle.plain_model.specs.Calls.{Asked, AskLock, Call, Did, Stopped, is_running}
 use Rattle.plain_model.specs.Runs.{EndsBy}
 use Rattle.key_space.specs.Plays.{UndoTo}
 use Rattle.sql_exec.specs.Means.{HasGiver, WasGiven}
@@ -28,6 +29,7 @@ gave_on stop first old new last before after gave = record {
   before = gave.before;
   since = since_trans (λ call. true) first old gave.before before gave.since;
   more = since_trans (λ call. true) (Stopped gave.asked stop ∷ gave.before) new last gave.more after;
+  placed = gave.placed;
 }
 
 -- a reply's cause stays its cause
@@ -72,19 +74,19 @@ module _ (defs : List TableDef) (first old new last : List Call) (before : Grown
 
 -- ---- The giver of a lack
 
-gave_last : (asked : Asked) (stop : Stop) (begun before new : List Call) → Grown begun before → Grown (Stopped asked stop ∷ before) new → GaveSince stop begun new
-gave_last asked stop begun before new since more = record { asked = asked; before = before; since = since; more = more }
+gave_last : (asked : Asked) (stop : Stop) (begun before new : List Call) → IsTrue (is_running before) → Grown begun before → Grown (Stopped asked stop ∷ before) new → GaveSince stop begun new
+gave_last asked stop begun before new runs since more = record { asked = asked; before = before; since = since; more = more; placed = inr runs }
 
 -- a stop that ended the calls behind a begin was given since
 pub stop_given : (stop : Stop) (begun now last : List Call) → HasBegun begun → Grown begun now → EndsBy now stop → Grown now last → GaveSince stop begun last
 stop_given stop begun now last has more ends on =
-    gave_last ends.asked stop begun ends.before last (since_past (λ call. true) (Stopped ends.asked stop) begun ends.before now has refl ends.last more)
+    gave_last ends.asked stop begun ends.before last ends.running (since_past (λ call. true) (Stopped ends.asked stop) begun ends.before now has refl ends.last more)
     (subst (λ (calls : List Call). Grown calls last) ends.last on)
 
-lack_given : (resource : Resource) (begun old new : List Call) → HasBegun begun → Grown begun old → Grown old new → WasGiven resource old new → GaveSince (stops.Refused resource) begun new
-lack_given resource begun old new has first more (inl (name, mode, is)) =
-    gave_last (AskLock name mode) (stops.Refused resource) begun old new first (subst (Grown (Stopped (AskLock name mode) (stops.Refused resource) ∷ old)) (sym is) here)
-lack_given resource begun old new has first more (inr (mark, before, is, ends)) =
+lack_given : (resource : Resource) (begun old new : List Call) → HasBegun begun → IsTrue (is_running old) → Grown begun old → Grown old new → WasGiven resource old new → GaveSince (stops.Refused resource) begun new
+lack_given resource begun old new has runs first more (inl (name, mode, is)) =
+    gave_last (AskLock name mode) (stops.Refused resource) begun old new runs first (subst (Grown (Stopped (AskLock name mode) (stops.Refused resource) ∷ old)) (sym is) here)
+lack_given resource begun old new has runs first more (inr (mark, before, is, ends)) =
     let all = since_trans (λ call. true) begun old new first more in
     let past = since_past (λ call. true) (Did (UndoTo mark)) begun before new has refl is all in
     stop_given (stops.Refused resource) begun before new has past ends (subst (Grown before) (sym is) (then (Did (UndoTo mark)) before refl here))
@@ -94,9 +96,9 @@ abbrev pub IsNeverSpent : List TableDef → List Call → Reply → Type 0
 IsNeverSpent defs new reply = (first : Tables) → PlaysFrom defs first new → (limit : ℕ) → reply ≡ Refused (refusals.Spent limit) → ⊥
 
 -- a statement's reply has its cause since the begin
-module _ (defs : List TableDef) (begun old new : List Call) (has : HasBegun begun) (first : Grown begun old) (more : Grown old new) where
+module _ (defs : List TableDef) (begun old new : List Call) (has : HasBegun begun) (runs : IsTrue (is_running old)) (first : Grown begun old) (more : Grown old new) where
   refusal_given : (refusal : Refusal) → HasGiver old new (Refused refusal) → IsNeverSpent defs new (Refused refusal) → ReplyWasGiven defs begun new (Refused refusal)
-  refusal_given (refusals.Resource resource) giver never = lack_given resource begun old new has first more giver
+  refusal_given (refusals.Resource resource) giver never = lack_given resource begun old new has runs first more giver
   refusal_given (refusals.Spent limit) giver never = λ tables plays. absurd (never tables plays limit refl)
   refusal_given (refusals.Syntax at) giver never = tt
   refusal_given refusals.InBlock giver never = tt

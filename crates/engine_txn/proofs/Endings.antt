@@ -33,7 +33,7 @@ use Rattle.engine_txn.specs.StatementRuns.{RunsStatement, Works, is_row_work}
 use Rattle.engine_txn.specs.Progress.{Answered, Broken, CutShort, Going, ReadAs, RunsBegun, RunsInside, RunsOr, is_end, rest_of}
 use Rattle.engine_txn.proofs.CallLists.{grown, works_uncommitted}
 use Rattle.engine_txn.proofs.Causes.{all_given_on, given_on, reply_given, spent_given}
-use Rattle.engine_txn.proofs.Inside.{spent_ends, spent_stops}
+use Rattle.engine_txn.proofs.Inside.{running_begun, spent_ends, spent_stops}
 use Rattle.engine_txn.proofs.Tables.{left_first, not_spent, plays_back, tables_begun}
 use Rattle.engine_txn.proofs.Texts.{allowed_answers, texts_early, texts_one}
 
@@ -107,9 +107,9 @@ fails_halts (stops.Spent limit) is = absurd is
 fails_halts (stops.Refused resource) is = absurd is
 
 -- the reply to an end has its cause
-end_given : (defs : List TableDef) (end : BlockEnd) (ended : Ended) (begun old : List Call) (usual : Reply) → Grown begun old → ReplyWasGiven defs begun (call_at end ended ∷ old) usual → ReplyWasGiven defs begun (call_at end ended ∷ old) (reply_at ended usual)
-end_given defs end Done begun old usual more given = given
-end_given defs end (Spent limit) begun old usual more given = λ first plays. record { asked = end_asks end; before = old; since = more; more = here }
+end_given : (defs : List TableDef) (end : BlockEnd) (ended : Ended) (begun old : List Call) (usual : Reply) → IsTrue (is_running old) → Grown begun old → ReplyWasGiven defs begun (call_at end ended ∷ old) usual → ReplyWasGiven defs begun (call_at end ended ∷ old) (reply_at ended usual)
+end_given defs end Done begun old usual runs more given = given
+end_given defs end (Spent limit) begun old usual runs more given = λ first plays. record { asked = end_asks end; before = old; since = more; more = here; placed = inr runs }
 
 -- ---- BEGIN, and what follows it
 
@@ -165,7 +165,7 @@ module _ (defs : List TableDef) (t : Transaction) (begun : List Call) (has : Has
         means = λ first plays. end_means t.statements t.end ended first said now (going.said first (plays_back defs first now (last ∷ now) (begins_nothing t.end ended now) plays));
         causes = all_with_end (ReplyWasGiven defs begun (last ∷ now)) t.end said (reply_at ended replies.Done)
             (all_given_on defs begun begun now (last ∷ now) here (begins_nothing t.end ended now) said going.causes)
-            (end_given defs t.end ended begun now replies.Done more tt);
+            (end_given defs t.end ended begun now replies.Done going.running more tt);
         commits = end_commits t.end ended begun now (works_uncommitted begun now going.works);
         ended = stops_running t.end ended now;
       } in
@@ -204,19 +204,19 @@ alone_means (Spent limit) statement first reply now allowed is = inr (allowed, i
 
 module _ (defs : List TableDef) (text : Placed) (statement : Statement) (begun now : List Call) (has : HasBegun begun) (read : ReadAs false text (Allowed statement)) (works : Works begun now) where
   -- it was answered, and the commit was done or is spent
-  pub alone_answered : (reply : Reply) (ended : Ended) (new : List Call) → RunsStatement defs statement begun now → Means defs statement begun (Ok reply) now → HasGiver begun now reply
+  pub alone_answered : (reply : Reply) (ended : Ended) (new : List Call) → RunsStatement defs statement begun now → IsTrue (is_running now) → Means defs statement begun (Ok reply) now → HasGiver begun now reply
       → EndsAs Commit now (Ok ended) new → Answered defs (Alone text) begun (reply_at ended reply ∷ []) new
-  alone_answered reply ended new runs means giver ends =
+  alone_answered reply ended new runs running means giver ends =
       let last = call_at Commit ended in
       let is = ends_by Commit ended now new ends in
       let answers : (first : Tables) → PlaysFrom defs first now → AnswersUnless None statement first reply (tables_of first now) = λ first plays.
       subst (λ (tables : Tables). AnswersUnless None statement tables reply (tables_of first now)) (tables_begun first begun has) (means first plays) in
-      let given = reply_given defs begun begun now has here (grown is_row_work begun now works) reply giver
+      let given = reply_given defs begun begun now has (running_begun begun has) here (grown is_row_work begun now works) reply giver
       (λ first plays limit e. not_spent false (Ok statement) first (tables_of first now) reply limit (allowed_answers false statement first (tables_of first now) reply read.1 (answers first plays)) e) in
       let behind : Answered defs (Alone text) begun (reply_at ended reply ∷ []) (last ∷ now) = record {
         ran = record { mid = now; works = works; texts = texts_one false defs text [] statement begun now read runs; ends = then last now (call_is_end Commit ended) here };
         means = λ first plays. (Ok statement, read.0, (reply_at ended reply, refl, alone_means ended statement first reply now read.1 (answers first (plays_back defs first now (last ∷ now) (begins_nothing Commit ended now) plays))));
-        causes = (end_given defs Commit ended begun now reply (grown is_row_work begun now works) (given_on defs begun begun now (last ∷ now) here (begins_nothing Commit ended now) reply given), tt);
+        causes = (end_given defs Commit ended begun now reply running (grown is_row_work begun now works) (given_on defs begun begun now (last ∷ now) here (begins_nothing Commit ended now) reply given), tt);
         commits = end_commits Commit ended begun now (works_uncommitted begun now works);
         ended = stops_running Commit ended now;
       } in

@@ -52,7 +52,7 @@ spent_ends limit now (inr ends) = ends
 pub spent_stops : (limit : ℕ) (now : List Call) → EndsBy now (stops.Spent limit) → is_running now ≡ false
 spent_stops limit now ends = ap is_running ends.last
 
-running_begun : (begun : List Call) → HasBegun begun → IsTrue (is_running begun)
+pub running_begun : (begun : List Call) → HasBegun begun → IsTrue (is_running begun)
 running_begun begun (age, number, old, is) = subst (λ (calls : List Call). IsTrue (is_running calls)) (sym is) refl
 
 module _ (defs : List TableDef) (t : Transaction) (begun : List Call) (has : HasBegun begun) where
@@ -79,7 +79,7 @@ module _ (defs : List TableDef) (t : Transaction) (begun : List Call) (has : Has
       said = λ first plays more last inside. subst (λ (l : List Reply). TransactionAnswers t.statements t.end first l last) (sym (append_assoc replies (reply ∷ []) more))
           (going.said first (plays_back defs first now new (works_continue now new works) plays) (reply ∷ more) last (read, is, inl (tables_of first new, answers first plays, inside)));
       causes = all_push (ReplyWasGiven defs begun new) replies reply causes_on
-          (reply_given defs begun now new has (grown is_row_work begun now going.works) (grown is_row_work now new works) reply giver (λ first plays limit e. not_spent true read (tables_of first now) (tables_of first new) reply limit (answers first plays) e));
+          (reply_given defs begun now new has going.running (grown is_row_work begun now going.works) (grown is_row_work now new works) reply giver (λ first plays limit e. not_spent true read (tables_of first now) (tables_of first new) reply limit (answers first plays) e));
       running = running;
     }
 

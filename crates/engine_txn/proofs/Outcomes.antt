@@ -262,9 +262,9 @@ refused_begin stops.OutOfMemory refusal is = absurd is
 
 refused_given : (defs : List TableDef) (age : Option ℕ) (stop : Stop) (refusal : Refusal) (old : List Call) → RefusesBegin stop refusal → ReplyWasGiven defs old (unanswered age stop old) (replies.Refused refusal)
 refused_given defs age (stops.Spent limit) refusal old is =
-    subst (λ (r : Refusal). ReplyWasGiven defs old (unanswered age (stops.Spent limit) old) (replies.Refused r)) (sym is) (λ first plays. record { asked = AskBegin age; before = old; since = here; more = here })
+    subst (λ (r : Refusal). ReplyWasGiven defs old (unanswered age (stops.Spent limit) old) (replies.Refused r)) (sym is) (λ first plays. record { asked = AskBegin age; before = old; since = here; more = here; placed = inl (age, refl) })
 refused_given defs age (stops.Refused (LogFull bytes limit)) refusal old is =
-    subst (λ (r : Refusal). ReplyWasGiven defs old (unanswered age (stops.Refused (LogFull bytes limit)) old) (replies.Refused r)) (sym is) (record { asked = AskBegin age; before = old; since = here; more = here })
+    subst (λ (r : Refusal). ReplyWasGiven defs old (unanswered age (stops.Refused (LogFull bytes limit)) old) (replies.Refused r)) (sym is) (record { asked = AskBegin age; before = old; since = here; more = here; placed = inl (age, refl) })
 refused_given defs age (stops.Refused (Pages used limit)) refusal old is = absurd is
 refused_given defs age (stops.Refused (Nodes used limit)) refusal old is = absurd is
 refused_given defs age (stops.Refused (Txn used limit)) refusal old is = absurd is

@@ -1,6 +1,6 @@
 -- The transaction of a block, by its calls.
 use Rattle.std.specs.Prelude.{◌≡◌, ◌⊎◌, ℕ, Bool, true, false, not, if◌then◌else◌, List, ◌∷◌, Option, Some}
-use Rattle.std.specs.Prelude.{Result}
+use Rattle.std.specs.Prelude.{Result, IsTrue}
 use Rattle.disk_core.specs.declared.store.FileName.{FileName}
 use Rattle.plain_model.specs.declared.stop.Stop.{Stop}
 use Rattle.plain_model.specs.declared.stop.Stop.TheVariants as stops
@@ -42,12 +42,17 @@ CommitsLast old new =
 abbrev pub Continues : List Call → List Call → Type 0
 Continues old new = AllSince (λ call. not (is_begin call)) old new
 
--- a call since gave this stop
+-- a call is asked for to begin a transaction, or while one runs
+abbrev pub IsOfTransaction : Asked → List Call → Type 0
+IsOfTransaction asked calls = ((age : Option ℕ) × (asked ≡ AskBegin age)) ⊎ IsTrue (is_running calls)
+
+-- a call since gave this stop: a begin, or one while a transaction ran
 pub record GaveSince (stop : Stop) (old new : List Call) : Type 0 where
   pub asked : Asked
   pub before : List Call
   pub since : Grown old before
   pub more : Grown (Stopped asked stop ∷ before) new
+  pub placed : IsOfTransaction asked before
 
 -- the last call has begun a transaction
 abbrev pub HasBegun : List Call → Type 0

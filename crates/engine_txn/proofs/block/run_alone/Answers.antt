@@ -23,7 +23,7 @@ returns-in_ok-end-in-Ok-clause-runs g c = λ text read.
     let begun = g.B.RowCalls.calls c.args.calls.now in
     let mid = g.B.RowCalls.calls c.run_statement.new.calls in
     let new = g.B.RowCalls.calls c.end.new.calls in
-    let answered = alone_answered defs text c.args.statement begun mid c.requires.begun read c.run_statement.ensures.works c.in-Ok.reply c.in_ok-end-in-Ok.field-0 new c.in-Ok.ensures.calls c.in-Ok.ensures.means c.in-Ok.ensures.lack c.in_ok-end-in-Ok.ensures.calls in
+    let answered = alone_answered defs text c.args.statement begun mid c.requires.begun read c.run_statement.ensures.works c.in-Ok.reply c.in_ok-end-in-Ok.field-0 new c.in-Ok.ensures.calls c.in-Ok.ensures.runs c.in-Ok.ensures.means c.in-Ok.ensures.lack c.in_ok-end-in-Ok.ensures.calls in
     subst (λ (r : Reply). Answered defs (Alone text) begun (r ∷ []) new) (sym c.reply.ensures) answered
 
 pub returns-in-Err-clause-runs : goal.returns-in-Err-clause-runs
