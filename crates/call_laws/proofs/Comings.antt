@@ -1,5 +1,7 @@
 -- What a try of a block comes to.
-use Rattle.std.proofs.Common.{◌≡◌, inl, inr, ℕ, true, false, not, List, [], ◌∷◌, Option, None, refl, sym, ◌∙◌, ap, subst}
+use Rattle.std.proofs.Common.{◌≡◌, ◌≤◌, inl, inr, ℕ, Bool, true, false, not, List, [], ◌∷◌, length, Option, None, refl, sym, ◌∙◌, ap, subst, arith}
+use Rattle.std.proofs.lemmas.Bool.{false≢true}
+use Rattle.std.specs.Prelude.{IsTrue}
 use Rattle.std.specs.List.{AllByRecursion}
 use Rattle.row_types.specs.declared.block.Block.{Block}
 use Rattle.row_types.specs.declared.definition.TableDef.{TableDef}
@@ -11,22 +13,22 @@ use Rattle.plain_model.specs.declared.stop.Resource.{Resource}
 use Rattle.plain_model.specs.declared.stop.Resource.TheVariants.{Pages, Nodes, Txn, Locks, LogFull, Busy}
 use Rattle.plain_model.specs.Blocks.{block_means}
 use Rattle.plain_model.specs.CallPlays.{tables_of}
-use Rattle.plain_model.specs.Calls.{Asked, AskLock, AskGet, AskChunk, AskPut, AskDel, AskMark, AskUndoTo, AskBegin, AskCommit, AskUndo, AskCheckpoint, Call, Began, Committed, Undone, Locked, Did, Opened, Stopped, is_running, ops_of}
+use Rattle.plain_model.specs.Calls.{Asked, AskLock, AskGet, AskChunk, AskPut, AskDel, AskMark, AskUndoTo, AskBegin, AskCommit, AskUndo, AskCheckpoint, Call, Began, Committed, Undone, Locked, Did, Opened, Stopped, is_running, op_count, ops_of}
 use Rattle.plain_model.specs.Runs.{is_begin}
 use Rattle.op_log.specs.declared.change.RowChange.{RowChange}
 use Rattle.sql_exec.specs.Plays.{LacksFor, LacksPlay, PlaysFrom}
 use Rattle.engine_txn.specs.declared.tried.Tried.{Tried}
 use Rattle.engine_txn.specs.declared.tried.Tried.TheVariants as tries
 use Rattle.engine_txn.specs.BlockSaid.{BlockSaid, ReplyWasGiven, SaidWithin, SaidWithout, left_by}
-use Rattle.engine_txn.specs.Transactions.{here, then, BeganNone, CommitsLast, Continues, EndsByFault, GaveSince, Grown, IsGivenUp, IsUndone, Uncommitted, is_commit}
+use Rattle.engine_txn.specs.Transactions.{here, then, BeganNone, CommitsLast, Continues, EndsByFault, GaveSince, Grown, IsGivenUp, IsOfTransaction, IsUndone, Uncommitted, is_commit}
 use Rattle.engine_txn.specs.Tries.{Tries}
-use Rattle.call_log.specs.History.{begun_at, settled, with_batch, batches_of, last_batch, IsUsedUp, MayLackWith, IsOwnStop, IsOrdered, IsHistory}
+use Rattle.call_log.specs.History.{AreOpsSpent, begin_count, begun_at, settled, with_batch, batches_of, last_batch, IsInPlace, IsSpentAt, IsUsedUp, MayBeSpent, MayLackWith, IsOwnStop, IsOrdered, IsHistory}
 use Rattle.call_log.specs.Played.{empty_tables, played}
 use Rattle.call_log.specs.Standing.{standing}
 use Rattle.call_log.proofs.Standings.{tables_are_played}
 use Rattle.call_log.proofs.Histories.{begun_are_tables, calls_play}
-use Rattle.call_laws.specs.Comings.{LacksBy, SaidBy, Comes}
-use Rattle.call_laws.proofs.Lasting.{begun_kept, batches_kept, grown_by, history_since, last_kept, last_passes, settled_kept, since_between, tail_grown}
+use Rattle.call_laws.specs.Comings.{LacksBy, SaidBy, SpentBy, Comes}
+use Rattle.call_laws.proofs.Lasting.{begun_kept, batches_kept, grown_by, grown_longer, history_since, last_kept, last_passes, settled_kept, since_between, tail_grown}
 
 -- ---- the calls are those of some tables
 
@@ -120,6 +122,63 @@ module _ (defs : List TableDef) (old new : List Call) (is : IsHistory defs new) 
   all_lack [] commits given = tt
   all_lack (reply ∷ replies) commits given = (lacks_by reply commits given.0, all_lack replies commits given.1)
 
+-- ---- what is spent
+
+begins_few : (calls : List Call) → begin_count calls ≤ length calls
+begins_few [] = omega arith
+begins_few (Began age number ∷ calls) = let few = begins_few calls in omega (arith, few)
+begins_few (Committed ∷ calls) = let few = begins_few calls in omega (arith, few)
+begins_few (Undone ∷ calls) = let few = begins_few calls in omega (arith, few)
+begins_few (Locked name mode ∷ calls) = let few = begins_few calls in omega (arith, few)
+begins_few (Did op ∷ calls) = let few = begins_few calls in omega (arith, few)
+begins_few (Opened generation ∷ calls) = let few = begins_few calls in omega (arith, few)
+begins_few (Stopped asked stop ∷ calls) = let few = begins_few calls in omega (arith, few)
+
+ops_few : (calls : List Call) → op_count calls ≤ length calls
+ops_few [] = omega arith
+ops_few (Began age number ∷ calls) = omega arith
+ops_few (Committed ∷ calls) = let few = ops_few calls in omega (arith, few)
+ops_few (Undone ∷ calls) = let few = ops_few calls in omega (arith, few)
+ops_few (Locked name mode ∷ calls) = let few = ops_few calls in omega (arith, few)
+ops_few (Did op ∷ calls) = let few = ops_few calls in omega (arith, few)
+ops_few (Opened generation ∷ calls) = let few = ops_few calls in omega (arith, few)
+ops_few (Stopped asked stop ∷ calls) = let few = ops_few calls in omega (arith, few)
+
+ops_spent : (calls : List Call) (limit : ℕ) → AreOpsSpent (op_count calls) limit → MayBeSpent calls limit
+ops_spent calls limit spent = (spent.0, subst (λ (n : ℕ). n ≤ length calls) spent.1 (ops_few calls))
+
+-- a checkpoint isn't asked for by a transaction
+no_checkpoint : (calls : List Call) → is_running calls ≡ false → IsOfTransaction AskCheckpoint calls → ⊥
+no_checkpoint calls idle (inl (age, is)) = absurd cc
+no_checkpoint calls idle (inr runs) = false≢true (subst (λ (r : Bool). IsTrue r) idle runs)
+
+spent_calls : (calls : List Call) (asked : Asked) (limit : ℕ) → IsInPlace asked calls → IsOfTransaction asked calls → IsSpentAt calls asked limit → MayBeSpent calls limit
+spent_calls calls (AskBegin age) limit place of spent = let few = begins_few calls in (spent.0, omega (arith, few, spent.1))
+spent_calls calls (AskGet n key) limit place of spent = ops_spent calls limit spent
+spent_calls calls (AskChunk n range) limit place of spent = ops_spent calls limit spent
+spent_calls calls (AskPut n row) limit place of spent = ops_spent calls limit spent
+spent_calls calls (AskDel n key) limit place of spent = ops_spent calls limit spent
+spent_calls calls (AskUndoTo mark) limit place of spent = ops_spent calls limit spent
+spent_calls calls AskCheckpoint limit place of spent = absurd (no_checkpoint calls place of)
+spent_calls calls (AskLock name mode) limit place of spent = absurd spent
+spent_calls calls AskMark limit place of spent = absurd spent
+spent_calls calls AskCommit limit place of spent = absurd spent
+spent_calls calls AskUndo limit place of spent = absurd spent
+
+module _ (defs : List TableDef) (old new : List Call) (is : IsHistory defs new) where
+  spent_by : (reply : Reply) → ReplyWasGiven defs old new reply → SpentBy new reply
+  spent_by reply given = λ limit reply_is.
+      let gives : (first : Tables) → PlaysFrom defs first new → GaveSince (stops.Spent limit) old new = subst (ReplyWasGiven defs old new) reply_is given in
+      let gave = gives (begun_at (empty_tables defs) new) (plays_from defs new is) in
+      let stopped = history_since defs (Stopped gave.asked (stops.Spent limit) ∷ gave.before) new gave.more is in
+      let spent = spent_calls gave.before gave.asked limit stopped.ordered.0 gave.placed stopped.ordered.1 in
+      let longer = grown_longer (Stopped gave.asked (stops.Spent limit) ∷ gave.before) new gave.more in
+      (spent.0, omega (arith, spent.1, longer))
+
+  all_spent : (replies : List Reply) → AllByRecursion (ReplyWasGiven defs old new) replies → AllByRecursion (SpentBy new) replies
+  all_spent [] given = tt
+  all_spent (reply ∷ replies) given = (spent_by reply given.0, all_spent replies given.1)
+
 -- ---- a block that is answered
 
 left_step : (first : Tables) (call : Call) (calls : List Call) → not (is_commit call) ≡ true → left_by first (call ∷ calls) ≡ first
@@ -151,6 +210,7 @@ module _ (defs : List TableDef) (block : Block) (old : List Call) (replies : Lis
         batches = ap (λ (batches : List (List RowChange)). with_batch batches (standing (ops_of before))) (batches_kept old before kept);
         same = λ empty. tables_are_played (begun_at E before) (ops_of before) (calls_play E before is.plays) ∙ ap (λ (changes : List RowChange). played (begun_at E before) changes) empty ∙ begun;
         causes = all_lack defs old new is replies (inr (before, refl, kept)) given;
+        spent = all_spent defs old new is replies given;
         ended = refl;
       }
 
@@ -169,6 +229,7 @@ module _ (defs : List TableDef) (block : Block) (old : List Call) (replies : Lis
         batches = batches_kept old new kept ∙ sym (ap (with_batch (batches_of old)) (last_kept old new kept none));
         same = λ empty. settled_kept E old new kept;
         causes = all_lack defs old new is replies (inl kept) given;
+        spent = all_spent defs old new is replies given;
         ended = idle;
       }
   said_within new is none (inr (before, new_is, kept)) said given idle =
@@ -185,6 +246,7 @@ module _ (defs : List TableDef) (block : Block) (old : List Call) (replies : Lis
         batches = batches_kept old new kept ∙ sym (ap (with_batch (batches_of old)) (last_kept old new kept none));
         same = λ empty. settled_kept E old new kept;
         causes = all_lack defs old new is replies commits given;
+        spent = all_spent defs old new is replies given;
         ended = idle;
       }
 

@@ -12,7 +12,7 @@ pub grown_by : (test : Call → Bool) (old new : List Call) → AllSince test ol
 grown_by test old _ here = here
 grown_by test old _ (then call calls is more) = then call calls refl (grown_by test old calls more)
 
-grown_longer : (old new : List Call) → Grown old new → length old ≤ length new
+pub grown_longer : (old new : List Call) → Grown old new → length old ≤ length new
 grown_longer old _ here = omega arith
 grown_longer old _ (then call calls is more) = let rest = grown_longer old calls more in omega arith
 

@@ -1,7 +1,7 @@
 -- What the calls from a keeper's beginning on have done: the transactions that are over, and the one that
 -- runs.
-use Rattle.std.specs.Prelude.{◌≡◌, ◌⊎◌, ℕ, ◌+◌, ◌<◌, ◌≤◌, false, List, [], ◌∷◌, ◌++◌, map, length, None}
-use Rattle.std.specs.Prelude.{IsTrue, ⊤}
+use Rattle.std.specs.Prelude.{◌≡◌, ◌⊎◌, ℕ, ◌+◌, ◌-◌, ◌^◌, ◌<◌, ◌≤◌, false, List, [], ◌∷◌, ◌++◌, map, length}
+use Rattle.std.specs.Prelude.{None, IsTrue, ⊤}
 use Rattle.row_types.specs.declared.definition.TableDef.{TableDef}
 use Rattle.row_types.specs.Schema.{IsSchema}
 use Rattle.row_types.specs.Tables.{Tables}
@@ -11,7 +11,8 @@ use Rattle.plain_model.specs.declared.stop.Stop.TheVariants as stops
 use Rattle.plain_model.specs.declared.stop.Resource.{Resource}
 use Rattle.plain_model.specs.declared.stop.Resource.TheVariants.{Txn, LogFull}
 use Rattle.plain_model.specs.CallPlays.{tables_of}
-use Rattle.plain_model.specs.Calls.{Asked, AskPut, AskDel, AskBegin, AskUndo, AskCheckpoint, Call, Began}
+use Rattle.plain_model.specs.Calls.{Asked, AskGet, AskChunk, AskPut, AskDel, AskUndoTo, AskBegin, AskUndo}
+use Rattle.plain_model.specs.Calls.{AskCheckpoint, Call, Began}
 use Rattle.plain_model.specs.Calls.{Committed, Undone, Locked, Did, Opened, Stopped, is_running, op_count}
 use Rattle.plain_model.specs.Calls.{ops_of}
 use Rattle.op_log.specs.Changes.{body_text, del_bytes, put_bytes}
@@ -140,6 +141,41 @@ MayLackWith defs batches (Txn used limit) =
     (len : ℕ) × IsChangeLen defs len × IsTxnFull len used limit
 MayLackWith defs batches resource = ⊥
 
+-- the most that is counted: of transactions, and of the operations of one
+abbrev pub count_limit : ℕ
+count_limit = 2 ^ 64 - 1
+
+-- how many transactions have begun
+abbrev pub begin_count : List Call → ℕ
+begin_count [] = 0
+begin_count (Began age number ∷ calls) = 1 + begin_count calls
+begin_count (Committed ∷ calls) = begin_count calls
+begin_count (Undone ∷ calls) = begin_count calls
+begin_count (Locked name mode ∷ calls) = begin_count calls
+begin_count (Did op ∷ calls) = begin_count calls
+begin_count (Opened generation ∷ calls) = begin_count calls
+begin_count (Stopped asked stop ∷ calls) = begin_count calls
+
+-- a transaction of so many operations can't have one more
+abbrev pub AreOpsSpent : ℕ → ℕ → Type 0
+AreOpsSpent ops limit = (limit ≡ count_limit) × (ops ≡ limit)
+
+-- no transaction can be counted any more, or no operation of the one that
+-- runs; of checkpoints there may be none
+abbrev pub IsSpentAt : List Call → Asked → ℕ → Type 0
+IsSpentAt calls (AskBegin age) limit = (limit ≡ count_limit) × (limit ≤ begin_count calls)
+IsSpentAt calls (AskGet table key) limit = AreOpsSpent (op_count calls) limit
+IsSpentAt calls (AskChunk table range) limit = AreOpsSpent (op_count calls) limit
+IsSpentAt calls (AskPut table row) limit = AreOpsSpent (op_count calls) limit
+IsSpentAt calls (AskDel table key) limit = AreOpsSpent (op_count calls) limit
+IsSpentAt calls (AskUndoTo mark) limit = AreOpsSpent (op_count calls) limit
+IsSpentAt calls AskCheckpoint limit = limit ≡ 0
+IsSpentAt calls asked limit = ⊥
+
+-- where something is spent at this limit, at least so many calls were made
+abbrev pub MayBeSpent : List Call → ℕ → Type 0
+MayBeSpent calls limit = (limit ≡ count_limit) × (limit ≤ length calls)
+
 -- ---- Order
 
 -- a call may come where a transaction runs, and a begin or a checkpoint where none does
@@ -152,7 +188,7 @@ IsInPlace asked calls = IsTrue (is_running calls)
 -- a stop that a keeper in memory may give: something is used up or spent, or memory ran out
 abbrev pub IsOwnStop : List TableDef → List Call → Asked → Stop → Type 0
 IsOwnStop defs calls asked (stops.Refused resource) = IsUsedUp defs calls asked resource
-IsOwnStop defs calls asked (stops.Spent limit) = ⊤
+IsOwnStop defs calls asked (stops.Spent limit) = IsSpentAt calls asked limit
 IsOwnStop defs calls asked stops.OutOfMemory = ⊤
 IsOwnStop defs calls asked (stops.Die holder) = ⊥
 IsOwnStop defs calls asked (stops.Fault file) = ⊥

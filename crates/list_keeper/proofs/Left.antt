@@ -13,17 +13,17 @@ use Rattle.plain_model.specs.declared.stop.Stop.{Stop}
 use Rattle.plain_model.specs.declared.stop.Stop.TheVariants as stops
 use Rattle.plain_model.specs.declared.stop.Resource.{Resource}
 use Rattle.plain_model.specs.declared.stop.Resource.TheVariants.{Pages, Nodes, Txn, Locks, LogFull, Busy}
-use Rattle.plain_model.specs.Calls.{Asked, AskPut, AskDel, Call, Began, Committed, Undone, Did, Stopped, is_running, ops_of}
+use Rattle.plain_model.specs.Calls.{Asked, AskPut, AskDel, Call, Began, Committed, Undone, Did, Stopped, is_running, op_count, ops_of}
 use Rattle.plain_model.specs.Calls.{runs_behind, told}
 use Rattle.plain_model.specs.CallPlays.{tables_of}
 use Rattle.op_log.specs.Changes.{IsChange, body_text, change_text, del_bytes, put_bytes}
 use Rattle.op_log.specs.declared.change.RowChange.{RowChange}
 use Rattle.op_log.specs.declared.change.RowChange.TheVariants as change
 use Rattle.call_log.specs.Played.{empty_tables}
-use Rattle.call_log.specs.Standing.{standing}
-use Rattle.call_log.specs.History.{HasPlayed, IsHistory, IsInPlace, IsOrdered, IsUsedUp, batches_of, begun_at, bytes_with}
-use Rattle.call_log.specs.History.{last_batch, log_limit, log_room, settled, txn_limit, with_batch, with_forced}
-use Rattle.call_log.specs.History.{with_loaded}
+use Rattle.call_log.specs.Standing.{op_of, standing}
+use Rattle.call_log.specs.History.{AreOpsSpent, HasPlayed, IsHistory, IsInPlace, IsOrdered, IsSpentAt, IsUsedUp, batches_of}
+use Rattle.call_log.specs.History.{begin_count, begun_at, bytes_with, last_batch, log_limit, log_room, settled, txn_limit}
+use Rattle.call_log.specs.History.{with_batch, with_changes, with_forced, with_loaded}
 use Rattle.call_log.proofs.Histories.{batches_are_some, batches_fit, begun_is_settled, forced_is_history, gate_more}
 use Rattle.call_log.proofs.Histories.{loaded_batches, loaded_is_history, loaded_settled}
 use Rattle.txn_rows.specs.Rows.{Idle, Running, IsLoaded, IsTooMany, LeftBy, defs_of}
@@ -43,12 +43,12 @@ none_runs : {P : Type 0} → IsTrue false → P
 none_runs is = absurd (false≢true is)
 
 -- the same of equal definitions and of an equal answer whether a transaction runs
-pub left_as : {defs new_defs : List TableDef} {rows : TxnRows} {running new_running : Bool} {bytes : ℕ} {calls : List Call}
+pub left_as : {defs new_defs : List TableDef} {rows : TxnRows} {running new_running : Bool} {bytes number : ℕ} {calls : List Call}
     → new_defs ≡ defs → new_running ≡ running
-    → AreLeftBy defs rows running bytes calls → AreLeftBy new_defs rows new_running bytes calls
-left_as {new_defs = new_defs} {rows = rows} {running = running} {bytes = bytes} {calls = calls} same_defs same left =
-    subst (λ (r : Bool). AreLeftBy new_defs rows r bytes calls) (sym same)
-    (subst (λ (ds : List TableDef). AreLeftBy ds rows running bytes calls) (sym same_defs) left)
+    → AreLeftBy defs rows running bytes number calls → AreLeftBy new_defs rows new_running bytes number calls
+left_as {new_defs = new_defs} {rows = rows} {running = running} {bytes = bytes} {number = number} {calls = calls} same_defs same left =
+    subst (λ (r : Bool). AreLeftBy new_defs rows r bytes number calls) (sym same)
+    (subst (λ (ds : List TableDef). AreLeftBy ds rows running bytes number calls) (sym same_defs) left)
 
 -- what is known of the calls with one call more
 more_history : (defs : List TableDef) (call : Call) (calls : List Call) → IsHistory defs calls
@@ -57,14 +57,14 @@ more_history defs call calls is ordered plays = record { schema = is.schema; ord
 
 -- ---- Calls on rows
 
-module _ (rows : TxnRows) (was : Bool) (bytes : ℕ) (calls : List Call) where
+module _ (rows : TxnRows) (was : Bool) (bytes number : ℕ) (calls : List Call) where
   -- the rows of the transaction that runs
-  pub running : was ≡ true → AreLeftBy (defs_of rows) rows was bytes calls
+  pub running : was ≡ true → AreLeftBy (defs_of rows) rows was bytes number calls
       → Running rows (first_of (defs_of rows) calls) (ops_of calls)
   running was_is left = (left_as {new_running = true} refl (sym was_is) left).holds
 
   -- those that all committed transactions have left
-  pub idle : was ≡ false → AreLeftBy (defs_of rows) rows was bytes calls
+  pub idle : was ≡ false → AreLeftBy (defs_of rows) rows was bytes number calls
       → Idle rows (last_of (defs_of rows) calls) (last_batch calls)
   idle was_is left = (left_as {new_running = false} refl (sym was_is) left).holds
 
@@ -73,8 +73,12 @@ abbrev pub Uses : List TableDef → List Call → Asked → Option ℕ → Type 
 Uses defs calls asked more =
     (resource : Resource) → IsTooMany defs (ops_of calls) more resource → IsUsedUp defs calls asked resource
 
-module _ (defs : List TableDef) (old rows : TxnRows) (bytes : ℕ) (calls : List Call)
-    (left : AreLeftBy defs old true bytes calls) where
+-- what it says where no more operations can be counted
+abbrev pub Spends : List Call → Asked → Type 0
+Spends calls asked = (limit : ℕ) → AreOpsSpent (op_count calls) limit → IsSpentAt calls asked limit
+
+module _ (defs : List TableDef) (old rows : TxnRows) (bytes number : ℕ) (calls : List Call)
+    (left : AreLeftBy defs old true bytes number calls) where
   -- a transaction runs, and began with what all committed ones have left
   runs : IsTrue (is_running calls)
   runs = subst IsTrue left.running_is refl
@@ -82,20 +86,21 @@ module _ (defs : List TableDef) (old rows : TxnRows) (bytes : ℕ) (calls : List
   begun : first_of defs calls ≡ last_of defs calls
   begun = begun_is_settled (empty_tables defs) calls runs
 
-  did : (op : RowOp) → Running rows (first_of defs calls) (op ∷ ops_of calls) → AreLeftBy defs rows true bytes (Did op ∷ calls)
+  did : (op : RowOp) → Running rows (first_of defs calls) (op ∷ ops_of calls) → AreLeftBy defs rows true bytes number (Did op ∷ calls)
   did op is = record {
     history = more_history defs (Did op) calls left.history (runs, left.history.ordered) (is.play.0, left.history.plays);
     running_is = left.running_is;
     bytes_are = left.bytes_are;
     few = left.few;
     room = left.room;
+    numbered = left.numbered;
     holds = is;
   }
 
   stopped : (asked : Asked) (more : Option ℕ) (stop : Stop) → defs_of rows ≡ defs → IsInPlace asked calls
-      → Uses defs calls asked more → LeftBy rows (first_of defs calls) (ops_of calls) more stop
-      → AreLeftBy defs rows (runs_behind stop true) bytes (Stopped asked stop ∷ calls)
-  stopped asked more (stops.Refused resource) same place uses is =
+      → Uses defs calls asked more → Spends calls asked → LeftBy rows (first_of defs calls) (ops_of calls) more stop
+      → AreLeftBy defs rows (runs_behind stop true) bytes number (Stopped asked stop ∷ calls)
+  stopped asked more (stops.Refused resource) same place uses spends is =
       let many = subst (λ (ds : List TableDef). IsTooMany ds (ops_of calls) more resource) same is.1 in
       let call = Stopped asked (stops.Refused resource) in
       record {
@@ -104,19 +109,21 @@ module _ (defs : List TableDef) (old rows : TxnRows) (bytes : ℕ) (calls : List
         bytes_are = left.bytes_are;
         few = left.few;
         room = left.room;
+        numbered = left.numbered;
         holds = is.0;
       }
-  stopped asked more (stops.Spent limit) same place uses is =
+  stopped asked more (stops.Spent limit) same place uses spends is =
       let call = Stopped asked (stops.Spent limit) in
       record {
-        history = more_history defs call calls left.history (place, tt, left.history.ordered) left.history.plays;
+        history = more_history defs call calls left.history (place, spends limit is.0, left.history.ordered) left.history.plays;
         running_is = refl;
         bytes_are = left.bytes_are;
         few = left.few;
         room = none_runs;
+        numbered = left.numbered;
         holds = subst (λ (t : Tables). Idle rows t []) begun is.1;
       }
-  stopped asked more stops.OutOfMemory same place uses is =
+  stopped asked more stops.OutOfMemory same place uses spends is =
       let call = Stopped asked stops.OutOfMemory in
       record {
         history = more_history defs call calls left.history (place, tt, left.history.ordered) left.history.plays;
@@ -124,32 +131,33 @@ module _ (defs : List TableDef) (old rows : TxnRows) (bytes : ℕ) (calls : List
         bytes_are = left.bytes_are;
         few = left.few;
         room = left.room;
+        numbered = left.numbered;
         holds = is;
       }
-  stopped asked more (stops.Die holder) same place uses is = absurd is
-  stopped asked more (stops.Fault file) same place uses is = absurd is
+  stopped asked more (stops.Die holder) same place uses spends is = absurd is
+  stopped asked more (stops.Fault file) same place uses spends is = absurd is
 
   answered_by : {T : Type 0} (asked : Asked) (op : T → RowOp) (more : Option ℕ) (result : Result T Stop)
-      → defs_of rows ≡ defs → IsInPlace asked calls → Uses defs calls asked more
+      → defs_of rows ≡ defs → IsInPlace asked calls → Uses defs calls asked more → Spends calls asked
       → IfOk result (λ answer. Running rows (first_of defs calls) (op answer ∷ ops_of calls))
       → IfErr result (LeftBy rows (first_of defs calls) (ops_of calls) more)
-      → AreLeftBy defs rows (runs_on result) bytes (told (λ answer. Did (op answer)) asked result calls)
-  answered_by asked op more (Ok answer) same place uses done stops = did (op answer) done
-  answered_by asked op more (Err stop) same place uses done stops = stopped asked more stop same place uses stops
+      → AreLeftBy defs rows (runs_on result) bytes number (told (λ answer. Did (op answer)) asked result calls)
+  answered_by asked op more (Ok answer) same place uses spends done stops = did (op answer) done
+  answered_by asked op more (Err stop) same place uses spends done stops = stopped asked more stop same place uses spends stops
 
-module _ (old rows : TxnRows) (was : Bool) (bytes : ℕ) (calls : List Call) (same : defs_of rows ≡ defs_of old) where
+module _ (old rows : TxnRows) (was : Bool) (bytes number : ℕ) (calls : List Call) (same : defs_of rows ≡ defs_of old) where
   -- a call on rows was answered
   pub answered : {T : Type 0} (is : Bool) (asked : Asked) (op : T → RowOp) (more : Option ℕ) (result : Result T Stop)
       → was ≡ true → is ≡ runs_on result → (IsTrue (is_running calls) → IsInPlace asked calls)
-      → Uses (defs_of old) calls asked more → AreLeftBy (defs_of old) old was bytes calls
+      → Uses (defs_of old) calls asked more → Spends calls asked → AreLeftBy (defs_of old) old was bytes number calls
       → IfOk result (λ answer. Running rows (first_of (defs_of old) calls) (op answer ∷ ops_of calls))
       → IfErr result (LeftBy rows (first_of (defs_of old) calls) (ops_of calls) more)
-      → AreLeftBy (defs_of rows) rows is bytes (told (λ answer. Did (op answer)) asked result calls)
-  answered is asked op more result was_is is_is place uses left done stops =
+      → AreLeftBy (defs_of rows) rows is bytes number (told (λ answer. Did (op answer)) asked result calls)
+  answered is asked op more result was_is is_is place uses spends left done stops =
       let defs = defs_of old in
-      let kept : AreLeftBy defs old true bytes calls = left_as refl (sym was_is) left in
-      let here = place (runs defs old rows bytes calls kept) in
-      left_as same is_is (answered_by defs old rows bytes calls kept asked op more result same here uses done stops)
+      let kept : AreLeftBy defs old true bytes number calls = left_as refl (sym was_is) left in
+      let here = place (runs defs old rows bytes number calls kept) in
+      left_as same is_is (answered_by defs old rows bytes number calls kept asked op more result same here uses spends done stops)
 
 -- a fact of a result without an answer
 pub if_ok : {T : Type 0} (P : Type 0) (result : Result T Stop) → OnOk result P → IfOk result (λ answer. P)
@@ -178,6 +186,16 @@ module _ (defs : List TableDef) (calls : List Call) where
   uses_del table key (Locks held limit) never = absurd never
   uses_del table key (LogFull bytes limit) never = absurd never
   uses_del table key (Busy oldest) never = absurd never
+
+-- ---- Numbers
+
+changed_begins : (calls : List Call) (batch : List RowChange) → begin_count (with_changes calls batch) ≡ begin_count calls
+changed_begins calls [] = refl
+changed_begins calls (c ∷ batch) = changed_begins (Did (op_of c) ∷ calls) batch
+
+-- a batch that is loaded begins transactions too
+loaded_more : (calls : List Call) (batch : List RowChange) (number : ℕ) → number ≤ begin_count calls → number ≤ begin_count (with_loaded calls batch)
+loaded_more calls batch number few = let same = changed_begins (Began None 0 ∷ calls) batch in omega (arith, few, same)
 
 -- ---- Bytes in use
 
@@ -211,21 +229,22 @@ few_more bytes more (suc len) room short is = omega (arith, room, short, is)
 
 -- ---- Transactions
 
-module _ (old rows : TxnRows) (was : Bool) (bytes : ℕ) (calls : List Call) (same : defs_of rows ≡ defs_of old)
-    (left : AreLeftBy (defs_of old) old was bytes calls) where
+module _ (old rows : TxnRows) (was : Bool) (bytes number : ℕ) (calls : List Call) (same : defs_of rows ≡ defs_of old)
+    (left : AreLeftBy (defs_of old) old was bytes number calls) where
   abbrev defs : List TableDef
   defs = defs_of old
 
-  pub has_begun : (age : Option ℕ) (number : ℕ) → was ≡ false → bytes + log_room ≤ log_limit
-      → Running rows (last_of (defs_of old) calls) [] → AreLeftBy (defs_of rows) rows true bytes (Began age number ∷ calls)
-  has_begun age number was_is room is =
-      let ordered : IsOrdered defs (Began age number ∷ calls) = (sym left.running_is ∙ was_is, left.history.ordered) in
+  pub has_begun : (age : Option ℕ) (next : ℕ) → was ≡ false → next ≡ number + 1 → bytes + log_room ≤ log_limit
+      → Running rows (last_of (defs_of old) calls) [] → AreLeftBy (defs_of rows) rows true bytes next (Began age next ∷ calls)
+  has_begun age next was_is next_is room is =
+      let ordered : IsOrdered defs (Began age next ∷ calls) = (sym left.running_is ∙ was_is, left.history.ordered) in
       left_as same refl (record {
-        history = more_history defs (Began age number) calls left.history ordered left.history.plays;
+        history = more_history defs (Began age next) calls left.history ordered left.history.plays;
         running_is = refl;
         bytes_are = left.bytes_are;
         few = left.few;
         room = λ runs. room;
+        numbered = omega (arith, left.numbered, next_is);
         holds = is;
       })
 
@@ -233,11 +252,11 @@ module _ (old rows : TxnRows) (was : Bool) (bytes : ℕ) (calls : List Call) (sa
       → Idle rows (tables_of (first_of (defs_of old) calls) calls) (standing (ops_of calls))
       → length (body_text (defs_of rows) (standing (ops_of calls))) ≤ txn_limit
       → more ≡ batch_bytes (length (body_text (defs_of rows) (standing (ops_of calls))))
-      → AreLeftBy (defs_of rows) rows false (bytes + more) (Committed ∷ calls)
+      → AreLeftBy (defs_of rows) rows false (bytes + more) number (Committed ∷ calls)
   has_committed more was_is is short more_is =
       let batch = standing (ops_of calls) in
-      let kept : AreLeftBy defs old true bytes calls = left_as refl (sym was_is) left in
-      let ordered : IsOrdered defs (Committed ∷ calls) = (runs defs old rows bytes calls kept, left.history.ordered) in
+      let kept : AreLeftBy defs old true bytes number calls = left_as refl (sym was_is) left in
+      let ordered : IsOrdered defs (Committed ∷ calls) = (runs defs old rows bytes number calls kept, left.history.ordered) in
       let len_is = subst (λ (ds : List TableDef). more ≡ batch_bytes (length (body_text ds batch))) same more_is in
       left_as same refl (record {
         history = more_history defs Committed calls left.history ordered left.history.plays;
@@ -247,21 +266,23 @@ module _ (old rows : TxnRows) (was : Bool) (bytes : ℕ) (calls : List Call) (sa
             ∙ sym (more_bytes defs (batches_of calls) batch);
         few = few_more bytes more (length (body_text (defs_of rows) batch)) (kept.room refl) short more_is;
         room = none_runs;
+        numbered = left.numbered;
         holds = is;
       })
 
   pub was_undone : was ≡ true → Idle rows (first_of (defs_of old) calls) []
-      → AreLeftBy (defs_of rows) rows false bytes (Undone ∷ calls)
+      → AreLeftBy (defs_of rows) rows false bytes number (Undone ∷ calls)
   was_undone was_is is =
-      let kept : AreLeftBy defs old true bytes calls = left_as refl (sym was_is) left in
-      let ordered : IsOrdered defs (Undone ∷ calls) = (runs defs old rows bytes calls kept, left.history.ordered) in
+      let kept : AreLeftBy defs old true bytes number calls = left_as refl (sym was_is) left in
+      let ordered : IsOrdered defs (Undone ∷ calls) = (runs defs old rows bytes number calls kept, left.history.ordered) in
       left_as same refl (record {
         history = more_history defs Undone calls left.history ordered left.history.plays;
         running_is = refl;
         bytes_are = left.bytes_are;
         few = left.few;
         room = none_runs;
-        holds = subst (λ (t : Tables). Idle rows t []) (begun defs old rows bytes calls kept) is;
+        numbered = left.numbered;
+        holds = subst (λ (t : Tables). Idle rows t []) (begun defs old rows bytes number calls kept) is;
       })
 
   -- ---- The log file
@@ -269,7 +290,7 @@ module _ (old rows : TxnRows) (was : Bool) (bytes : ℕ) (calls : List Call) (sa
   pub was_loaded : (len : ℕ) (batch : List RowChange) → was ≡ false → batch ≢ []
       → AllByRecursion (IsChange (defs_of old)) batch → len ≡ length (body_text (defs_of old) batch)
       → bytes + 5 + len ≤ log_limit + 1 → IsLoaded rows (last_of (defs_of old) calls) batch None
-      → AreLeftBy (defs_of rows) rows was (bytes + 5 + len) (with_loaded calls batch)
+      → AreLeftBy (defs_of rows) rows was (bytes + 5 + len) number (with_loaded calls batch)
   was_loaded len batch was_is some fit len_is room loaded =
       let batches = batches_of calls in
       left_as same was_is (record {
@@ -280,6 +301,7 @@ module _ (old rows : TxnRows) (was : Bool) (bytes : ℕ) (calls : List Call) (sa
             ∙ ap (bytes_with defs) (sym (loaded_batches defs calls batch fit));
         few = room;
         room = none_runs;
+        numbered = loaded_more calls batch number left.numbered;
         holds = subst (λ (t : Tables). Idle rows t []) (sym (loaded_settled (empty_tables defs) calls batch)) loaded.1;
       })
     where
@@ -288,17 +310,18 @@ module _ (old rows : TxnRows) (was : Bool) (bytes : ℕ) (calls : List Call) (sa
       by_gate bytes len gate text new a b c = omega (arith, a, b, c)
 
 -- a force without changes
-pub none_forced : (rows : TxnRows) (was : Bool) (bytes : ℕ) (calls : List Call) → was ≡ false
-    → AreLeftBy (defs_of rows) rows was bytes calls → last_batch calls ≡ []
-    → AreLeftBy (defs_of rows) rows was bytes (with_forced calls)
-none_forced rows was bytes calls was_is left none =
-    let before = idle rows was bytes calls was_is left in
+pub none_forced : (rows : TxnRows) (was : Bool) (bytes number : ℕ) (calls : List Call) → was ≡ false
+    → AreLeftBy (defs_of rows) rows was bytes number calls → last_batch calls ≡ []
+    → AreLeftBy (defs_of rows) rows was bytes number (with_forced calls)
+none_forced rows was bytes number calls was_is left none =
+    let before = idle rows was bytes number calls was_is left in
     left_as refl was_is (record {
       history = forced_is_history (defs_of rows) calls left.history (sym left.running_is ∙ was_is);
       running_is = refl;
       bytes_are = left.bytes_are;
       few = left.few;
       room = none_runs;
+      numbered = omega (arith, left.numbered);
       holds = subst (λ (batch : List RowChange). Idle rows (last_of (defs_of rows) calls) batch) none before;
     })
 

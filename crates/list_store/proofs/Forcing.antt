@@ -28,13 +28,13 @@ use Rattle.lane_format.specs.declared.writer.Stage.TheVariants.{Failed, Open}
 use Rattle.call_log.specs.Played.{empty_tables}
 use Rattle.call_log.specs.History.{IsHistory, batches_of, bodies_of, gate_behind, last_batch, log_limit, settled, with_batch, with_forced}
 use Rattle.call_log.proofs.Histories.{forced_is_history, gate_more}
-use Rattle.call_laws.specs.Comings.{Comes, SaidBy, StaysAs}
+use Rattle.call_laws.specs.Comings.{Comes, LacksBy, SaidBy, SpentBy, StaysAs}
 use Rattle.call_laws.proofs.Comings.{try_comes}
 use Rattle.txn_rows.specs.Forces.{Forces}
 use Rattle.list_keeper.specs.Past.{IsPast, Told, tables_in}
 use Rattle.list_store.specs.Keeping.{Keeps, Secures, batches_in, defs_of, disk_of, gate_of}
 use Rattle.list_store.specs.Log.{IsLogOf}
-use Rattle.list_store.specs.Running.{Answers, ForcesOne, IsEither, IsUnrun, Stops}
+use Rattle.list_store.specs.Running.{Answers, ForcesOne, IsCaused, IsEither, IsUnrun, Stops}
 use Rattle.list_store.specs.declared.store.ListStore.{ListStore}
 use Rattle.list_store.proofs.Pasts.{batches_push, bodies_push, has_batch, log_of_lane}
 use Rattle.list_store.proofs.Storing.{keeps_as, keeps_these, now_too, secures_of, secures_these, settled_as}
@@ -56,6 +56,15 @@ past_forced told past idle = record {
 -- a writer that stands at a gate hasn't failed
 pub not_failed : {D : Type 0} (w : LaneWriter D) (gate : ℕ) → stage_of w ≡ Open 2 gate → ¬ (IsFailed w)
 not_failed w gate stage failed = let both : Open 2 gate ≡ Failed failed.0 = sym stage ∙ failed.1 in cc
+
+-- the causes of replies
+caused_all : (defs : List TableDef) (batches : List (List RowChange)) (calls : List Call) (replies : List Reply) → AllByRecursion (LacksBy defs batches) replies → AllByRecursion (SpentBy calls) replies → AllByRecursion (IsCaused defs batches) replies
+caused_all defs batches calls [] lacks spent = tt
+caused_all defs batches calls (reply ∷ replies) lacks spent = ((lacks.0, λ limit is. (spent.0 limit is).0), caused_all defs batches calls replies lacks.1 spent.1)
+
+spent_forced : (calls : List Call) (replies : List Reply) → AllByRecursion (SpentBy calls) replies → AllByRecursion (SpentBy (with_forced calls)) replies
+spent_forced calls [] spent = tt
+spent_forced calls (reply ∷ replies) spent = ((λ limit is. let may = spent.0 limit is in (may.0, omega (arith, may.1))), spent_forced calls replies spent.1)
 
 module _ {D : Type 0} (d : Ghosts D) (only_now : (disk : D) (image : List ℕ) → d.left_since disk (d.moment disk) image → d.may_leave disk image)
     (block : Block) (old new : ListStore D) (mid : Told) (replies : List Reply)
@@ -79,6 +88,13 @@ module _ {D : Type 0} (d : Ghosts D) (only_now : (disk : D) (image : List ℕ) �
 
   new_forced : last_batch new.keeper.calls ≡ []
   new_forced = ap last_batch new_calls
+
+  -- each reply has its cause, and the calls of the force are calls too
+  all_caused : AllByRecursion (IsCaused (defs_of old) (batches_in old)) replies
+  all_caused = caused_all (defs_of old) (batches_in old) mid.calls replies said.causes said.spent
+
+  all_spent : AllByRecursion (SpentBy new.keeper.calls) replies
+  all_spent = subst (λ (calls : List Call). AllByRecursion (SpentBy calls) replies) (sym new_calls) (spent_forced mid.calls replies said.spent)
 
   means_next : (tables : Tables) → Keeps d old tables → block_means block tables replies (tables_in new.keeper)
   means_next tables keeps =
@@ -114,7 +130,8 @@ module _ {D : Type 0} (d : Ghosts D) (only_now : (disk : D) (image : List ℕ) �
       defs = defs_are;
       means = λ tables keeps. (tables_in new.keeper, keeps_none tables keeps, means_next tables keeps);
       secures = λ tables secures. (tables_in new.keeper, secures_none tables secures, means_next tables secures.keeps, moments_none tables secures);
-      causes = said.causes;
+      causes = all_caused;
+      spent = all_spent;
       forces = inl (same_batches, same_disk);
       faults = ap d.faults same_disk;
     }
@@ -166,7 +183,8 @@ module _ {D : Type 0} (d : Ghosts D) (only_now : (disk : D) (image : List ℕ) �
         defs = defs_are;
         means = λ tables keeps. (tables_in new.keeper, keeps_some tables keeps, means_next tables keeps);
         secures = λ tables secures. (tables_in new.keeper, secures_some tables secures, means_next tables secures.keeps, moments_some (Ok tt) forces tables secures);
-        causes = said.causes;
+        causes = all_caused;
+        spent = all_spent;
         forces = inr (last_batch mid.calls, batches_are ∙ batches_push (batches_in old) (last_batch mid.calls) some, forces.calls 2 (gate_of old) keeps.stage (not_failed old.writer (gate_of old) keeps.stage));
         faults = forces.fault.still;
       }

@@ -18,17 +18,20 @@ use Rattle.disk_core.specs.Moments.{LeavesNow, LeavesOnly}
 use Rattle.lane_format.specs.Lane.{frame_text}
 use Rattle.lane_format.specs.Plans.{append_calls}
 use Rattle.lane_format.specs.declared.writer.LaneFault.{LaneFault}
-use Rattle.call_log.specs.History.{MayLackWith}
+use Rattle.call_log.specs.History.{MayLackWith, count_limit}
+use Rattle.call_laws.specs.Comings.{SpentBy}
 use Rattle.list_store.specs.Keeping.{Keeps, Secures, batches_in, defs_of, disk_of, gate_of}
 use Rattle.list_store.specs.Log.{IsLogOf}
 use Rattle.list_store.specs.declared.store.ListStore.{ListStore}
 use Rattle.list_store.specs.declared.answer.Answer.{Answer}
 use Rattle.list_store.specs.declared.answer.Answer.TheVariants.{Said, Stopped, OutOfMemory}
 
--- what a reply says to be lacking may lack where the log has these batches
+-- what a reply says to be lacking may lack where the log has these batches,
+-- and what it says to be spent has the one limit of all that is counted
 abbrev pub IsCaused : List TableDef → List (List RowChange) → Reply → Type 0
 IsCaused defs batches reply =
-    (resource : Resource) → reply ≡ Refused (refusals.Resource resource) → MayLackWith defs batches resource
+    ((resource : Resource) → reply ≡ Refused (refusals.Resource resource) → MayLackWith defs batches resource)
+    × ((limit : ℕ) → reply ≡ Refused (refusals.Spent limit) → limit ≡ count_limit)
 
 -- a call that was done
 abbrev pub done : Result (Unit {0}) LaneFault
@@ -58,6 +61,7 @@ module _ {D : Type 0} (d : Ghosts D) where
         → (next : Tables) × Secures d new next × block_means block tables replies next
         × LeavesOnly d (disk_of old) (disk_of new) (IsEither (defs_of old) tables next)
     pub causes : AllByRecursion (IsCaused (defs_of old) (batches_in old)) replies
+    pub spent : AllByRecursion (SpentBy new.keeper.calls) replies
     pub forces : ForcesOne old new
     pub faults : d.faults (disk_of new) ≡ d.faults (disk_of old)
 

@@ -1,5 +1,5 @@
 -- What rows of tables in memory hold, where no transaction runs and where one does.
-use Rattle.std.specs.Prelude.{◌≡◌, ℕ, zero, suc, ◌+◌, ◌-◌, ◌≤◌, ◌^◌, List, [], ◌∷◌, length, drop, Option}
+use Rattle.std.specs.Prelude.{◌≡◌, ℕ, zero, suc, ◌+◌, ◌≤◌, List, [], ◌∷◌, length, drop, Option}
 use Rattle.std.specs.Prelude.{None, Some, Bool, true, false}
 use Rattle.std.specs.List.{AllByRecursion}
 use Rattle.row_types.specs.declared.definition.TableDef.{TableDef}
@@ -17,7 +17,7 @@ use Rattle.op_log.specs.declared.change.RowChange.{RowChange}
 use Rattle.lane_format.specs.Lane.{body_of}
 use Rattle.call_log.specs.Standing.{change_moments, changes_at, standing}
 use Rattle.call_log.specs.Played.{ArePlayed, IsPlayed, played, tables_behind_change}
-use Rattle.call_log.specs.History.{IsTxnFull, txn_limit}
+use Rattle.call_log.specs.History.{AreOpsSpent, IsTxnFull, txn_limit}
 use Rattle.txn_rows.specs.declared.undo.Step.{Step}
 use Rattle.txn_rows.specs.declared.rows.TxnRows.{TxnRows}
 use Rattle.txn_rows.specs.Steps.{AreOf, AreThere, GoesBack, Holds, IsBefore, IsOnTable, stands}
@@ -98,7 +98,7 @@ abbrev pub LeftBy : TxnRows → Tables → List RowOp → Option ℕ → Stop �
 LeftBy rows first ops more stops.OutOfMemory = Running rows first ops
 LeftBy rows first ops more (stops.Refused resource) =
     Running rows first ops × IsTooMany (defs_of rows) ops more resource
-LeftBy rows first ops more (stops.Spent limit) = (limit ≡ 2 ^ 64 - 1) × Idle rows first []
+LeftBy rows first ops more (stops.Spent limit) = AreOpsSpent (length ops) limit × Idle rows first []
 LeftBy rows first ops more (stops.Die holder) = ⊥
 LeftBy rows first ops more (stops.Fault file) = ⊥
 

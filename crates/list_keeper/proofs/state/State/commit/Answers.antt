@@ -8,6 +8,6 @@ overflow_add-self c = omega (arith, c.requires.kept.1.few, c.batch_bytes.ensures
 pub returns-clause-kept : goal.returns-clause-kept
 returns-clause-kept c = λ calls kept.
     let s = c.args.self.now in
-    let idle = c.in_ok-commit.ensures.idle _ _ (running s.rows s.running s.bytes calls c.requires.running kept) in
-    has_committed s.rows c.commit.new.self s.running s.bytes calls c.commit.ensures.defs kept
+    let idle = c.in_ok-commit.ensures.idle _ _ (running s.rows s.running s.bytes s.number calls c.requires.running kept) in
+    has_committed s.rows c.commit.new.self s.running s.bytes s.number calls c.commit.ensures.defs kept
     c.batch_bytes.result c.requires.running idle idle.short (c.batch_bytes.ensures.value _ _ idle)

@@ -10,8 +10,8 @@ returns-clause-kept c = λ calls kept.
     let s = c.args.self.now in
     let table = c.args.table in
     let key = c.args.key.number in
-    let runs = running s.rows s.running s.bytes calls c.requires.running kept in
-    answered s.rows c.get-answer.new.self s.running s.bytes calls c.get-answer.ensures.defs c.runs_on-self.result
+    let runs = running s.rows s.running s.bytes s.number calls c.requires.running kept in
+    answered s.rows c.get-answer.new.self s.running s.bytes s.number calls c.get-answer.ensures.defs c.runs_on-self.result
     (AskGet table key) (Get table key) None c.get-answer.result
-    c.requires.running c.runs_on-self.ensures (λ is. is) (uses_none (defs_in s) calls (AskGet table key)) kept
+    c.requires.running c.runs_on-self.ensures (λ is. is) (uses_none (defs_in s) calls (AskGet table key)) (λ limit is. is) kept
     (c.get-answer.ensures.done _ _ runs) (c.get-answer.ensures.stopped _ _ runs)

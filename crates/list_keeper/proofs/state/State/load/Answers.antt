@@ -11,8 +11,8 @@ pub returns-in-None-clause-kept : goal.returns-in-None-clause-kept
 returns-in-None-clause-kept c = λ calls kept.
     let s = c.args.self in
     let tables = settled (empty_tables (defs_in s)) calls in
-    let before = idle s.rows s.running s.bytes calls c.requires.idle kept in
+    let before = idle s.rows s.running s.bytes s.number calls c.requires.idle kept in
     let played = c.in_ok-index.ensures.played _ _ before in
-    was_loaded s.rows c.load.new.self s.running s.bytes calls c.load.ensures.defs kept
+    was_loaded s.rows c.load.new.self s.running s.bytes s.number calls c.load.ensures.defs kept
     c.args.len c.args.batch c.requires.idle c.requires.some c.requires.fit c.requires.len c.requires.room
     (subst (λ (end : Option ℕ). IsLoaded c.load.new.self tables c.args.batch end) c.in-None.is played)
