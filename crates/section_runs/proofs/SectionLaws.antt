@@ -1,5 +1,5 @@
 -- Answers of sections one after the other.
-use Rattle.std.proofs.Common.{◌≡◌, ◌≢◌, ℕ, suc, List, [], ◌∷◌, ◌++◌, length, Option, None, Some, slice_get, refl, sym, ◌∙◌, ap, subst}
+use Rattle.std.proofs.Common.{◌≡◌, ◌≢◌, ◌<◌, ℕ, zero, suc, List, [], ◌∷◌, ◌++◌, length, Option, None, Some, IsSome, slice_get, arith, refl, sym, ◌∙◌, ap, subst}
 use Rattle.std.proofs.lemmas.Grind.{flat_map-append}
 use Rattle.std.proofs.lemmas.List.{append-nil}
 use Rattle.std.specs.List.{AllByRecursion, flat_map}
@@ -9,7 +9,7 @@ use Rattle.plain_model.specs.Blocks.{Said}
 use Rattle.section_runs.specs.declared.section.SectionRun.{SectionRun}
 use Rattle.section_runs.specs.declared.section.Halt.{Halt}
 use Rattle.section_runs.specs.declared.section.Halt.TheVariants.{Done, Stopped, OutOfMemory}
-use Rattle.section_runs.specs.Sections.{AreStopped, IsUnrun, all_said, block_at, faults_after, halt_of, said_by, stopped_by, stopped_in, to_run, with_replies, worse}
+use Rattle.section_runs.specs.Sections.{AreStopped, FailsAt, IsUnrun, all_said, block_at, faults_after, halt_of, said_by, stopped_by, stopped_in, to_run, with_replies, worse}
 
 pub with_none : (blocks : List Block) → with_replies blocks [] ≡ []
 with_none [] = refl
@@ -87,6 +87,34 @@ stopped-push (r ∷ runs) run are unrun = (
   λ is. unrun-append runs run (are.0 is) (unrun (ap (λ (h : Halt). worse h (halt_of runs)) is)),
   stopped-push runs run are.1 (λ is. unrun (ap (worse r.halt) is ∙ worse-stopped r.halt)),
 )
+
+-- ---- Blocks that are left
+
+some_at : (blocks : List Block) (n : ℕ) → n < length blocks → IsSome (slice_get blocks n)
+some_at [] n within = absurd (omega (arith, within))
+some_at (b ∷ blocks) zero within = refl
+some_at (b ∷ blocks) (suc n) within = some_at blocks n (omega (arith, within))
+
+some_stopped : (h : Halt) (block other : Option Block) → h ≡ Stopped → IsSome block → IsSome (block_at h block other)
+some_stopped Done block other is some = absurd cc
+some_stopped Stopped block other is some = some
+some_stopped OutOfMemory block other is some = absurd cc
+
+-- the disk failed at a block where one is left
+pub fails_there : (h : Halt) (blocks : List Block) (n : ℕ) → (h ≢ Done → n < length blocks) → FailsAt h (block_at h (slice_get blocks n) None)
+fails_there h blocks n short is = some_stopped h (slice_get blocks n) None is (some_at blocks n (short (λ done. let e : Done ≡ Stopped = sym done ∙ is in absurd cc)))
+
+stopped_then : (next : Halt) → worse OutOfMemory next ≡ Stopped → next ≡ Stopped
+stopped_then Done is = absurd cc
+stopped_then Stopped is = refl
+stopped_then OutOfMemory is = absurd cc
+
+-- one section more
+pub fails_on : (h : Halt) (runs : List SectionRun) (run : SectionRun) → h ≡ halt_of runs → FailsAt h (stopped_in runs) → (h ≢ Stopped → FailsAt run.halt (stopped_by run)) → FailsAt (worse h run.halt) (stopped_in (runs ++ run ∷ []))
+fails_on Done runs run are before fails is = subst IsSome (sym (none_stopped runs (run ∷ []) (λ stopped. let e : Done ≡ Stopped = are ∙ stopped in absurd cc))) (fails (λ e. absurd cc) is)
+fails_on Stopped runs run are before fails is = subst IsSome (sym (once_stopped runs (run ∷ []) (sym are))) (before refl)
+fails_on OutOfMemory runs run are before fails is =
+    subst IsSome (sym (none_stopped runs (run ∷ []) (λ stopped. let e : OutOfMemory ≡ Stopped = are ∙ stopped in absurd cc))) (fails (λ e. absurd cc) (stopped_then run.halt is))
 
 -- ---- What the blocks of one section more were answered with
 

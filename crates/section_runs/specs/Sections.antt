@@ -1,5 +1,5 @@
 -- What the blocks of sections were answered with.
-use Rattle.std.specs.Prelude.{◌≡◌, ℕ, ◌<◌, ◌≤◌, List, [], ◌∷◌, length, drop, Option, None, slice_get}
+use Rattle.std.specs.Prelude.{◌≡◌, ℕ, ◌<◌, ◌≤◌, List, [], ◌∷◌, length, drop, Option, None, IsSome, slice_get}
 use Rattle.std.specs.List.{AllByRecursion, flat_map}
 use Rattle.causes.specs.Causes.{one_more}
 use Rattle.row_types.specs.declared.block.Block.{Block}
@@ -33,13 +33,15 @@ all_said runs = flat_map said_by runs
 abbrev pub left_in : SectionRun → List Block
 left_in run = drop (length run.said) (to_run run.section)
 
--- where a section ended as it does, so many of its blocks are left
+-- Where a section ended as it does, so many of its blocks are left. One that isn't run, since the disk had
+-- failed before, may have none to begin with.
 abbrev pub Leaves : Halt → ℕ → Type 0
 Leaves Done left = left ≡ 0
 Leaves Stopped left = Unit {0}
-Leaves OutOfMemory left = Unit {0}
+Leaves OutOfMemory left = 0 < left
 
--- no more blocks have replies than there are, and all have where nothing stopped the section
+-- No more blocks have replies than there are. All have where nothing stopped the section, and not all where
+-- memory ran out.
 pub record IsAnswered (run : SectionRun) : Type 0 where
   pub few : length run.said ≤ length (to_run run.section)
   pub left : Leaves run.halt (length (left_in run))
@@ -87,3 +89,7 @@ abbrev pub stopped_in : List SectionRun → Option Block
 stopped_in [] = None
 stopped_in (run ∷ runs) =
     block_at run.halt (slice_get (to_run run.section) (length run.said)) (stopped_in runs)
+
+-- where the disk failed, there is a block at which it did
+abbrev pub FailsAt : Halt → Option Block → Type 0
+FailsAt halt block = halt ≡ Stopped → IsSome block

@@ -1,12 +1,13 @@
 // Runs blocks over a store, section after section.
-ghost use Rattle.std.specs.Prelude.{◌≡◌, ◌≢◌, ◌≤◌, [], length, map, slice_get, vec_capacity, vec_len, None};
+ghost use Rattle.std.specs.Prelude.{◌≡◌, ◌≢◌, ◌<◌, ◌≤◌, [], length, map, slice_get, vec_capacity, vec_len};
+ghost use Rattle.std.specs.Prelude.{None};
 ghost use Rattle.std.specs.List.{AllByRecursion};
 ghost use Rattle.row_types.specs.Tables.{Tables};
 ghost use Rattle.list_store.specs.Keeping.{Keeps, disk_of};
 ghost use Rattle.section_runs.specs.Lasting.{Runs};
-ghost use Rattle.section_runs.specs.Sections.{AreStopped, IsAnswered, IsUnrun, Leaves, all_said, block_at};
-ghost use Rattle.section_runs.specs.Sections.{faults_after, halt_of, said_by, stopped_by, stopped_in};
-ghost use Rattle.section_runs.specs.Sections.{with_replies};
+ghost use Rattle.section_runs.specs.Sections.{AreStopped, FailsAt, IsAnswered, IsUnrun, Leaves, all_said};
+ghost use Rattle.section_runs.specs.Sections.{block_at, faults_after, halt_of, said_by, stopped_by};
+ghost use Rattle.section_runs.specs.Sections.{stopped_in, with_replies};
 
 use crate::{Halt, ReadySection, SectionRun};
 use disk_core::Disk;
@@ -26,6 +27,7 @@ fn run_blocks<D: Disk>(
     requires room { length blocks.now ≤ vec_capacity said.old }
     ensures few { length said.new.items ≤ length blocks.now }
     ensures all { result ≡ Halt.Done → length said.new.items ≡ length blocks.now }
+    ensures short { result ≢ Halt.Done → length said.new.items < length blocks.now }
     ensures faults { D.faults (disk_of store.new) ≡ faults_after result (D.faults (disk_of store.old)) }
     ensures runs { Runs D.Disk store.old (with_replies blocks.now said.new.items)
         (block_at result (slice_get blocks.now (length said.new.items)) None) store.new }
@@ -49,11 +51,15 @@ fn run_section<D: Disk>(
     requires keeps { (tables : Tables) × Keeps D.Disk store.old tables }
     ensures section { result.section ≡ section }
     ensures answered { IsAnswered result }
+    ensures failed { FailsAt result.halt (stopped_by result) }
     ensures faults { D.faults (disk_of store.new)
         ≡ faults_after result.halt (D.faults (disk_of store.old)) }
     ensures runs { Runs D.Disk store.old (said_by result) (stopped_by result) store.new }
 {
     let blocks = section.to_run();
+    if blocks.is_empty() {
+        return unrun(alloc, section, Halt::Done);
+    }
     let Ok(mut said) = Vec::with_capacity(alloc, blocks.len()) else {
         return unrun(alloc, section, Halt::OutOfMemory);
     };
@@ -88,6 +94,7 @@ fn run_next<D: Disk>(
     requires keeps { before ≢ Halt.Stopped → (tables : Tables) × Keeps D.Disk store.old tables }
     ensures section { result.section ≡ section }
     ensures answered { IsAnswered result }
+    ensures failed { before ≢ Halt.Stopped → FailsAt result.halt (stopped_by result) }
     ensures faults { before ≢ Halt.Stopped → D.faults (disk_of store.new)
         ≡ faults_after result.halt (D.faults (disk_of store.old)) }
     ensures runs { before ≢ Halt.Stopped
@@ -117,6 +124,7 @@ pub fn run_sections<D: Disk>(
     ensures halt { result.1 ≡ halt_of result.0.items }
     ensures answered { AllByRecursion IsAnswered result.0.items }
     ensures stopped { AreStopped result.0.items }
+    ensures failed { FailsAt result.1 (stopped_in result.0.items) }
     ensures faults { D.faults (disk_of store.new) ≡ faults_after result.1 (D.faults (disk_of store.old)) }
     ensures runs { Runs D.Disk store.old (all_said result.0.items) (stopped_in result.0.items) store.new }
 {

@@ -8,9 +8,9 @@ use Rattle.section_runs.specs.declared.section.Halt.{Halt}
 use Rattle.section_runs.specs.declared.section.Halt.TheVariants.{Done, Stopped}
 use Rattle.section_runs.specs.Lasting.{Runs}
 use Rattle.list_store.specs.Keeping.{disk_of}
-use Rattle.section_runs.specs.Sections.{AreStopped, IsAnswered, all_said, faults_after, halt_of, stopped_in, worse}
+use Rattle.section_runs.specs.Sections.{AreStopped, FailsAt, IsAnswered, all_said, faults_after, halt_of, stopped_in, worse}
 use Rattle.section_runs.proofs.RunLaws.{nothing_run, still_keeps}
-use Rattle.section_runs.proofs.SectionLaws.{all-append, halt-push, stopped-push, unstopped}
+use Rattle.section_runs.proofs.SectionLaws.{all-append, fails_on, halt-push, stopped-push, unstopped}
 use Rattle.section_runs.proofs.SectionRuns.{faults_on, one_more}
 use Rattle.section_runs.proofs.run.run_sections.Goals as goal
 
@@ -23,7 +23,7 @@ loop-section-init g c =
     let begun : (l : List SectionRun) → l ≡ [] → (map (λ run. run.section) l ≡ []) × (Done ≡ halt_of l) × AllByRecursion IsAnswered l × AreStopped l × P l =
     λ l is. subst (λ (l : List SectionRun). (map (λ run. run.section) l ≡ []) × (Done ≡ halt_of l) × AllByRecursion IsAnswered l × AreStopped l × P l) (sym is) (refl, refl, tt, tt, none) in
     let at = begun c.args.room.items c.requires.none in
-    (tt, tt, at.0, at.1, at.2, at.3, refl, at.4, search (rules, c.requires.none), c.requires.room)
+    (tt, tt, at.0, at.1, at.2, at.3, refl, at.4, λ is. absurd cc, search (rules, c.requires.none), c.requires.room)
 
 pub run_next-run-requires : goal.run_next-run-requires
 run_next-run-requires g c =
@@ -55,6 +55,7 @@ loop-section-preserved g c =
     let halt : c.worse-halt.result ≡ halt_of all = c.worse-halt.ensures ∙ ap (λ (x : Halt). worse x run.halt) so_far.3 ∙ sym (halt-push runs run) in
     let stopped : AreStopped all = stopped-push runs run so_far.5 (λ is. (ran.stopped (so_far.3 ∙ is)).0) in
     let on : Runs d start (all_said all) (stopped_in all) new = one_more d start mid new runs run h so_far.3 so_far.7 ran.runs ran.stopped in
+    let failed : FailsAt (worse h run.halt) (stopped_in all) = fails_on h runs run so_far.3 so_far.8 ran.failed in
     let faults = faults_on d start mid new runs run h (d.faults (disk_of start)) so_far.6 ran.faults ran.stopped in (
       tt,
       tt,
@@ -64,6 +65,7 @@ loop-section-preserved g c =
       subst AreStopped (sym pushed) stopped,
       faults ∙ ap (λ (x : Halt). faults_after x (d.faults (disk_of start))) (sym c.worse-halt.ensures),
       subst (λ (l : List SectionRun). Runs d start (all_said l) (stopped_in l) new) (sym pushed) on,
-      omega (arith, c.push_reserved.ensures.len, so_far.8, length-append c.loop-section.yielded (c.in-Some.section ∷ [])),
-      omega (arith, c.push_reserved.ensures.capacity, so_far.9),
+      subst (λ (l : List SectionRun). FailsAt c.worse-halt.result (stopped_in l)) (sym pushed) (subst (λ (x : Halt). FailsAt x (stopped_in all)) (sym c.worse-halt.ensures) failed),
+      omega (arith, c.push_reserved.ensures.len, so_far.9, length-append c.loop-section.yielded (c.in-Some.section ∷ [])),
+      omega (arith, c.push_reserved.ensures.capacity, so_far.10),
     )

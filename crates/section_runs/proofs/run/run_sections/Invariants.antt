@@ -4,7 +4,7 @@ use Rattle.row_types.specs.Tables.{Tables}
 use Rattle.list_store.specs.Keeping.{Keeps, disk_of}
 use Rattle.section_runs.specs.declared.section.Halt.TheVariants.{Stopped}
 use Rattle.section_runs.specs.Lasting.{Runs}
-use Rattle.section_runs.specs.Sections.{AreStopped, IsAnswered, all_said, faults_after, halt_of, stopped_in}
+use Rattle.section_runs.specs.Sections.{AreStopped, FailsAt, IsAnswered, all_said, faults_after, halt_of, stopped_in}
 use Rattle.section_runs.proofs.run.run_sections.Given as goal
 
 abbrev pub invariant-loop-section : goal.invariant-loop-section
@@ -16,5 +16,6 @@ invariant-loop-section g l =
     × AreStopped l.runs.items
     × (g.D.Disk.faults (disk_of l.store) ≡ faults_after l.halt (g.D.Disk.faults (disk_of l.fn.store)))
     × Runs g.D.Disk l.fn.store (all_said l.runs.items) (stopped_in l.runs.items) l.store
+    × FailsAt l.halt (stopped_in l.runs.items)
     × (vec_len l.runs ≡ length l.yielded)
     × (vec_len l.fn.sections ≤ vec_capacity l.runs)
