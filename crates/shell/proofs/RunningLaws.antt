@@ -12,14 +12,14 @@ use Rattle.list_store.specs.declared.store.ListStore.{ListStore}
 use Rattle.section_runs.specs.declared.section.SectionRun.{SectionRun}
 use Rattle.section_runs.specs.declared.section.Halt.{Halt}
 use Rattle.section_runs.specs.Lasting.{AreCaused, Lasts, Runs}
-use Rattle.section_runs.specs.Sections.{AreStopped, IsAnswered, all_said, faults_after, halt_of, stopped_in}
+use Rattle.section_runs.specs.Sections.{AreStopped, FailsAt, IsAnswered, all_said, faults_after, halt_of, stopped_in}
 use Rattle.section_runs.specs.Trail.{BeginsAmong}
 use Rattle.shell.specs.Running.{SectionsRan}
 
 module _ {D : Type 0} (d : Ghosts D) (defs : List TableDef) (old : D) (opened now : ListStore D) (shown : List SectionRun) (halt : Halt) where
   pub sections_ran : IsSchema defs → Opens d defs old opened → Runs d opened (all_said shown) (stopped_in shown) now → halt ≡ halt_of shown → d.faults (disk_of now) ≡ faults_after halt (d.faults (disk_of opened))
-      → AllByRecursion IsAnswered shown → AreStopped shown → SectionsRan d defs old shown (disk_of now)
-  sections_ran schema opens runs halt_is faults answered stopped =
+      → AllByRecursion IsAnswered shown → AreStopped shown → FailsAt halt (stopped_in shown) → SectionsRan d defs old shown (disk_of now)
+  sections_ran schema opens runs halt_is faults answered stopped failed =
       let first = opens.tables in
       let from = runs.each first opens.keeps in
       let trail = from.trail in
@@ -27,6 +27,7 @@ module _ {D : Type 0} (d : Ghosts D) (defs : List TableDef) (old : D) (opened no
         schema = schema;
         answered = answered;
         stopped = stopped;
+        failed = subst (λ (h : Halt). FailsAt h (stopped_in shown)) halt_is failed;
         faults = faults ∙ ap (faults_after halt) opens.faults ∙ ap (λ (h : Halt). faults_after h (d.faults old)) halt_is;
         first = first;
         opened = opens.entry;

@@ -281,6 +281,7 @@ module _ {S K D : Type 0} (s : source.Ghosts S) (k : sink.Ghosts K) (d : disk.Gh
         whole = finished.whole;
         ran = finished.ran;
         took = all_taken (answers.shows.zero zero).0 none finished.runs finished.shown_is;
+        still = (answers.shows.zero zero).1;
       }
 
   pub no_run : (status ≡ 2 → ¬ (IsRun words)) × (¬ (IsRun words) → status ≡ 2)

@@ -85,8 +85,8 @@ module _ {S K D : Type 0} (s : source.Ghosts S) (k : sink.Ghosts K) (d : disk.Gh
     pub why : Explains s d words old new view
     pub shows : Shows k view old_sink new_sink status
 
-  -- Status 0: the words ask for a run, all of a script was read, every block of its sections has replies, and
-  -- the sink took the sections with these.
+  -- Status 0: the words ask for a run, all of a script was read, every block of its sections has replies, the
+  -- sink took the sections with these, and no push failed.
   pub record AllDone (words : List (List ℕ)) (old new : Outside S D) (old_sink new_sink : K) : Type 0 where
     pub asks : IsRun words
     pub read : WasRead s old.source new.source
@@ -98,6 +98,7 @@ module _ {S K D : Type 0} (s : source.Ghosts S) (k : sink.Ghosts K) (d : disk.Gh
     pub whole : halt_of shown ≡ Done
     pub ran : SectionsRan d defs old.disk shown new.disk
     pub took : Took k (flat_map section_text shown) old_sink new_sink
+    pub still : k.faults new_sink ≡ k.faults old_sink
 
 module _ {D : Type 0} (d : disk.Ghosts D) where
   -- no call has changed the disk, and its bytes are the same

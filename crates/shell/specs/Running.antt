@@ -22,7 +22,8 @@ use Rattle.section_runs.specs.declared.section.SectionRun.{SectionRun}
 use Rattle.section_runs.specs.declared.section.Halt.{Halt}
 use Rattle.section_runs.specs.declared.section.Halt.TheVariants.{Done, Stopped, OutOfMemory}
 use Rattle.section_runs.specs.Lasting.{AreCaused, AreFlying}
-use Rattle.section_runs.specs.Sections.{AreStopped, IsAnswered, all_said, faults_after, halt_of, stopped_in}
+use Rattle.section_runs.specs.Sections.{AreStopped, FailsAt, IsAnswered, all_said, faults_after, halt_of}
+use Rattle.section_runs.specs.Sections.{stopped_in}
 use Rattle.section_runs.specs.Trail.{BeginsAmong, Leads, last_of}
 use Rattle.shell.specs.Outcome.{OutcomeView, fault_alone}
 use Rattle.shell.specs.Ready.{AreReady}
@@ -58,6 +59,7 @@ module _ {D : Type 0} (d : Ghosts D) where
     pub schema : IsSchema defs
     pub answered : AllByRecursion IsAnswered shown
     pub stopped : AreStopped shown
+    pub failed : FailsAt (halt_of shown) (stopped_in shown)
     pub faults : d.faults new ≡ faults_after (halt_of shown) (d.faults old)
     pub first : Tables
     pub opened : ForSome (d.content old) (BeginsWith defs first)

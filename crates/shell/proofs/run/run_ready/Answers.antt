@@ -15,7 +15,7 @@ returns g c =
     let runs = c.run_sections-runs.result.0.items in
     let ran = c.run_sections-runs.ensures in
     let schema : IsSchema defs = search (rules, c.schema.invariant, c.schema.view_is) in
-    let over = sections_ran d defs c.args.disk c.in-Ok.store c.run_sections-runs.new.store runs c.run_sections-runs.result.1 schema c.in-Ok.ensures.opened ran.runs ran.halt ran.faults ran.answered ran.stopped in
+    let over = sections_ran d defs c.args.disk c.in-Ok.store c.run_sections-runs.new.store runs c.run_sections-runs.result.1 schema c.in-Ok.ensures.opened ran.runs ran.halt ran.faults ran.answered ran.stopped ran.failed in
     let fault = c.fault_halting.ensures ∙ ap fault_halting ran.halt in
     inr (
       runs,
