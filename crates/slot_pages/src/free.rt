@@ -1,7 +1,7 @@
 // Which slots of a page are free.
 ghost use Rattle.std.specs.Prelude.{◌≡◌, ◌⊎◌, ◌↔◌, ℕ, ◌+◌, ◌*◌, ◌/◌, ◌<◌, ◌≤◌, IsTrue, IsNone, OnSome};
 ghost use Rattle.std.specs.Prelude.{IfSome, IfNone, length};
-ghost use Rattle.slot_pages.specs.State.{IsTaken};
+ghost use Rattle.slot_pages.specs.State.{IsTaken, LiesOutside};
 ghost use Rattle.slot_pages.specs.Slots.{IsFree, IsFirstFree};
 
 use crate::bytes::are_zero;
@@ -47,7 +47,7 @@ fn is_taken(bytes: &[u8], held: &[bool], len: usize, k: usize) -> bool
     requires marks { length held.now ≡ 256 }
     requires len { 16 ≤ len }
     requires inside { k < 4096 / len }
-    ensures { IsTrue result → IsTaken bytes.now held.now len k }
+    ensures { IsTrue result ↔ IsTaken bytes.now held.now len k }
 {
     held[k] || bytes[k * len] != 0
 }
@@ -60,6 +60,7 @@ pub(crate) fn taken_from(bytes: &[u8], held: &[bool], len: usize, from: usize) -
     requires few { from ≤ 65535 }
     requires taken { (k : ℕ) → k < from → IsTaken bytes.now held.now len k }
     ensures taken { (k : ℕ) → k < result → IsTaken bytes.now held.now len k }
+    ensures ended { result < 4096 / len → ¬ (IsTaken bytes.now held.now len result) }
     ensures few { result ≤ 65535 }
 {
     let mut k = from;
@@ -76,6 +77,7 @@ pub(crate) fn still_taken(taken: usize, len: usize, offset: usize, count: usize)
     requires len { len ≤ 65535 }
     ensures least { result ≤ taken }
     ensures same { (k : ℕ) → k < result → (k * len < offset) ⊎ (offset + count ≤ k * len) }
+    ensures most { (k : ℕ) → k < taken → LiesOutside len offset count k → k < result }
 {
     if len == 0 {
         return 0;

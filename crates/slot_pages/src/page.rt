@@ -59,7 +59,8 @@ impl Page {
     ghost use Rattle.fields.specs.Toggle.{byte_from, toggled};
     ghost use Rattle.row_types.specs.Page.{slot_at, page_fault};
     ghost use Rattle.row_types.specs.Schema.{columns_at};
-    ghost use Rattle.slot_pages.specs.State.{PageState, IsPage, bytes_in, none_held};
+    ghost use Rattle.slot_pages.specs.State.{PageState, IsPage, IsTaken, bytes_in, none_held};
+    ghost use Rattle.slot_pages.specs.State.{LiesOutside};
     ghost use Rattle.slot_pages.specs.Slots.{IsFree, IsFirstFree, unless_bad};
 
     /// An empty page with stamp 0, over a block that was free. `PoolFull`: there is none.
@@ -222,8 +223,10 @@ impl Page {
         requires page { IsPage pool.now self.old }
         requires least { 16 ≤ len }
         requires most { len ≤ 4096 }
-        ensures state { self.new ≡ record self.old { len = self.new.len; taken = self.new.taken } }
+        ensures state { self.new ≡ record self.old { len = len; taken = self.new.taken } }
         ensures kept { IsPage pool.now self.new }
+        ensures all { self.new.taken < 4096 / len
+            → ¬ (IsTaken (bytes_in pool.now self.new) self.new.held len self.new.taken) }
     {
         let from = self.taken_for(len);
         let taken = taken_from(pool.bytes(&self.block), &self.held, len, from);
@@ -252,6 +255,8 @@ impl Page {
             (Some (toggled (byte_from offset) (bytes_in pool.old self.old) xor.now)) }
         ensures state { self.new ≡ record self.old { stamp = self.old.stamp + 1; taken = self.new.taken } }
         ensures kept { IsPage pool.new self.new }
+        ensures known { (k : ℕ) → k < self.old.taken
+            → LiesOutside self.old.len offset (length xor.now) k → k < self.new.taken }
     {
         toggle(pool.bytes_mut(&self.block), offset as usize, xor);
         self.stamp += 1;
@@ -278,6 +283,7 @@ impl Page {
         ensures state { self.new
             ≡ record self.old { held = slice_set self.old.held n false; taken = self.new.taken } }
         ensures kept { (pool : Blocks) → IsPage pool self.old → IsPage pool self.new }
+        ensures known { (k : ℕ) → k < self.old.taken → k < n → k < self.new.taken }
     {
         self.held[n as usize] = false;
         self.taken = self.taken.min(n);

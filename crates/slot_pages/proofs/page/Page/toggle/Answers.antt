@@ -1,6 +1,6 @@
-use Rattle.std.proofs.Common.{subst, sym, refl}
+use Rattle.std.proofs.Common.{ℕ, ◌<◌, length, subst, sym, refl}
 use Rattle.block_pool.specs.Blocks.{Holds}
-use Rattle.slot_pages.specs.State.{bytes_in, IsPage}
+use Rattle.slot_pages.specs.State.{bytes_in, IsPage, LiesOutside}
 use Rattle.slot_pages.proofs.PageKept.{page_written}
 use Rattle.slot_pages.proofs.page.Page.toggle.Goals as goal
 
@@ -16,3 +16,10 @@ returns-clause-kept c =
     page_written c.args.pool.now _ _ c.args.xor.now c.bytes_mut.result.now c.toggle.new.bytes c.args.offset
     (subst (λ s. IsPage c.args.pool.now s) (sym c.self.view_is) c.requires.page) c.bytes_mut.ensures.bytes
     c.toggle.ensures refl refl refl c.still_taken.ensures.least c.still_taken.ensures.same
+
+pub returns-clause-known : goal.returns-clause-known
+returns-clause-known c =
+    subst
+    (λ s. (k : ℕ) → k < s.taken → LiesOutside s.len c.args.offset (length c.args.xor.now) k
+    → k < c.still_taken.result)
+    c.self.view_is c.still_taken.ensures.most
