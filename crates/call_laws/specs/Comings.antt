@@ -15,7 +15,7 @@ use Rattle.engine_txn.specs.declared.tried.Tried.TheVariants.{Said, Stopped, Out
 use Rattle.call_log.specs.History.{settled, with_batch, batches_of, last_batch, MayBeSpent, MayLackWith}
 use Rattle.call_log.specs.Played.{empty_tables}
 
--- what a reply says to be lacking may lack where the log has these batches
+-- what a reply says to be lacking is used up where the log has these batches
 abbrev pub LacksBy : List TableDef → List (List RowChange) → Reply → Type 0
 LacksBy defs batches reply =
     (resource : Resource) → reply ≡ Refused (refusals.Resource resource) → MayLackWith defs batches resource

@@ -92,11 +92,11 @@ gate_behind defs (batch ∷ batches) = 5 + length (body_text defs batch) + gate_
 abbrev pub txn_limit : ℕ
 txn_limit = 65536
 
--- the most bytes of a log file
+-- the last place at which a batch of a log file may end, and the limit that LOG FULL prints
 abbrev pub log_limit : ℕ
 log_limit = 67108864
 
--- the bytes that have to be free where a transaction begins: twice its most bytes and 64, twice
+-- the bytes that have to be free where a transaction begins: twice the sum of 64 and twice its most bytes
 abbrev pub log_room : ℕ
 log_room = 262272
 
@@ -129,7 +129,7 @@ IsUsedUp defs calls (AskDel table key) (Txn used limit) =
     (used ≡ txn_bytes defs calls) × IsTxnFull del_bytes used limit
 IsUsedUp defs calls asked resource = ⊥
 
--- a change of a row of these tables has so many bytes
+-- so many bytes are those of some change of a row of these tables
 abbrev pub IsChangeLen : List TableDef → ℕ → Type 0
 IsChangeLen defs len =
     ((table : ℕ) × (table < length defs) × (len ≡ put_bytes defs table)) ⊎ (len ≡ del_bytes)
@@ -178,7 +178,8 @@ MayBeSpent calls limit = (limit ≡ count_limit) × (limit ≤ length calls)
 
 -- ---- Order
 
--- a call may come where a transaction runs, and a begin or a checkpoint where none does
+-- a call that gives a stop comes where a transaction runs, a begin and a checkpoint where none does; an undo
+-- gives none
 abbrev pub IsInPlace : Asked → List Call → Type 0
 IsInPlace (AskBegin age) calls = is_running calls ≡ false
 IsInPlace AskCheckpoint calls = is_running calls ≡ false

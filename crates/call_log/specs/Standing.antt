@@ -6,7 +6,7 @@ use Rattle.key_space.specs.Plays.{RowOp, Get, Part, Put, Del, UndoTo}
 use Rattle.op_log.specs.declared.change.RowChange.{RowChange}
 use Rattle.op_log.specs.declared.change.RowChange.TheVariants as change
 
--- the whole number of 64 bits that a key is of
+-- the whole number whose key this is
 abbrev pub int_of_key : ℕ → ℤ
 int_of_key key = if nat_le (2 ^ 63) key then pos (key - 2 ^ 63) else negsuc (2 ^ 63 - key - 1)
 
@@ -21,7 +21,7 @@ abbrev pub latest_changes : List (List RowChange) → List RowChange
 latest_changes [] = []
 latest_changes (changes ∷ moments) = changes
 
--- a row that was there is taken away
+-- the changes, and one more that takes the row of this key away, where one was there
 abbrev pub with_del : Bool → ℕ → ℕ → List RowChange → List RowChange
 with_del true table key changes = changes ++ change.Del table (int_of_key key) ∷ []
 with_del false table key changes = changes

@@ -46,7 +46,7 @@ abbrev pub batch_bytes : ℕ → ℕ
 batch_bytes zero = 0
 batch_bytes (suc len) = 5 + suc len
 
--- a transaction still runs behind an answer, but for one that says that it is spent
+-- whether a transaction still runs after an answer: it doesn't where the answer is that something is spent
 abbrev pub runs_on : {T : Type 0} → Result T Stop → Bool
 runs_on (Ok answer) = true
 runs_on (Err stop) = runs_behind stop true

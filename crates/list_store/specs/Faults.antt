@@ -12,13 +12,13 @@ use Rattle.lane_format.specs.declared.writer.LaneFault.TheVariants as writes
 use Rattle.list_store.specs.declared.fault.OpenFault.{OpenFault}
 use Rattle.list_store.specs.declared.fault.OpenFault.TheVariants.{Disk, Damaged, OutOfMemory}
 
--- that of a reading
+-- the fault of an opening that a fault of reading is
 abbrev pub opening_fault : LaneReadFault → OpenFault
 opening_fault (reads.Disk file) = Disk file
 opening_fault (reads.Damaged file at) = Damaged file at
 opening_fault reads.OutOfMemory = OutOfMemory
 
--- that of a call of the writer
+-- the fault of an opening that a fault of the writer is
 abbrev pub writing_fault : LaneFault → OpenFault
 writing_fault (writes.Disk file) = Disk file
 writing_fault (writes.Closed file) = Disk file

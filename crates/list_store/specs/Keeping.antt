@@ -32,7 +32,7 @@ abbrev pub gate_of : {D : Type 0} → ListStore D → ℕ
 gate_of store = gate_behind (defs_of store) (batches_in store)
 
 module _ {D : Type 0} (d : Ghosts D) where
-  -- where the disk's content is known, nothing is pending, and a crash leaves nothing but these bytes
+  -- the disk's content is known to be these bytes, and a crash now leaves these alone: nothing is pending
   abbrev pub IsQuiet : D → List ℕ → Type 0
   IsQuiet disk bytes = (d.content disk ≡ Some bytes) × Only bytes (d.may_leave disk)
 

@@ -8,7 +8,6 @@ use Rattle.plain_model.specs.Blocks.{block_means}
 use Rattle.plain_model.specs.declared.reply.Reply.{Reply}
 use Rattle.plain_model.specs.declared.reply.Reply.TheVariants.{Refused}
 use Rattle.plain_model.specs.declared.reply.Refusal.TheVariants as refusals
-use Rattle.plain_model.specs.declared.stop.Resource.{Resource}
 use Rattle.op_log.specs.Changes.{body_text}
 use Rattle.op_log.specs.declared.change.RowChange.{RowChange}
 use Rattle.causes.specs.Causes.{one_more}
@@ -18,20 +17,19 @@ use Rattle.disk_core.specs.Moments.{LeavesNow, LeavesOnly}
 use Rattle.lane_format.specs.Lane.{frame_text}
 use Rattle.lane_format.specs.Plans.{append_calls}
 use Rattle.lane_format.specs.declared.writer.LaneFault.{LaneFault}
-use Rattle.call_log.specs.History.{MayLackWith, count_limit}
-use Rattle.call_laws.specs.Comings.{SpentBy}
+use Rattle.call_log.specs.History.{count_limit}
+use Rattle.call_laws.specs.Comings.{LacksBy, SpentBy}
 use Rattle.list_store.specs.Keeping.{Keeps, Secures, batches_in, defs_of, disk_of, gate_of}
 use Rattle.list_store.specs.Log.{IsLogOf}
 use Rattle.list_store.specs.declared.store.ListStore.{ListStore}
 use Rattle.list_store.specs.declared.answer.Answer.{Answer}
 use Rattle.list_store.specs.declared.answer.Answer.TheVariants.{Said, Stopped, OutOfMemory}
 
--- what a reply says to be lacking may lack where the log has these batches,
+-- what a reply says to be lacking is used up where the log has these batches,
 -- and what it says to be spent has the one limit of all that is counted
 abbrev pub IsCaused : List TableDef → List (List RowChange) → Reply → Type 0
 IsCaused defs batches reply =
-    ((resource : Resource) → reply ≡ Refused (refusals.Resource resource) → MayLackWith defs batches resource)
-    × ((limit : ℕ) → reply ≡ Refused (refusals.Spent limit) → limit ≡ count_limit)
+    LacksBy defs batches reply × ((limit : ℕ) → reply ≡ Refused (refusals.Spent limit) → limit ≡ count_limit)
 
 -- a call that was done
 abbrev pub done : Result (Unit {0}) LaneFault
@@ -50,8 +48,9 @@ module _ {D : Type 0} (d : Ghosts D) where
       × Made (append_calls (gate_of old) (frame_text (body_text (defs_of old) batch))) done
       (d.calls (disk_of old)) (d.calls (disk_of new)))
 
-  -- A block was answered: with the replies that it means on the store's tables, which then are those that it
-  -- means. At each moment a crash leaves the log of these or of those, and now that of those.
+  -- A block was answered with the replies that it means on the store's tables, and the store has the tables
+  -- that it leads to. At each moment a crash leaves a log of the tables from before or of the new ones, and
+  -- now of the new ones.
   pub record Answers (block : Block) (old : ListStore D) (replies : List Reply)
       (new : ListStore D) : Type 0 where
     pub defs : defs_of new ≡ defs_of old

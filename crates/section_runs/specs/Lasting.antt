@@ -15,22 +15,22 @@ use Rattle.list_store.specs.Running.{IsCaused}
 use Rattle.list_store.specs.declared.store.ListStore.{ListStore}
 use Rattle.section_runs.specs.Trail.{BeginsAmong, Leads, last_of}
 
--- where the log has some batches of changes that leave these tables, each resource
--- that is said to be lacking was used up
+-- there are batches that a log may hold and that leave these tables, with which each resource that a reply
+-- says to be lacking is used up
 abbrev pub IsCausedAt : List TableDef → Tables → List Reply → Type 0
 IsCausedAt defs tables replies =
     (batches : List (List RowChange)) × MayBeLogged defs batches × (tables ≡ logged_tables defs batches)
     × AllByRecursion (IsCaused defs batches) replies
 
--- so at each block of a trail, over the tables before it
+-- at each block of a trail this holds, for the tables before it
 abbrev pub AreCaused : List TableDef → Tables → List Said → List Tables → Type 0
 AreCaused defs tables [] trail = Unit {0}
 AreCaused defs tables (said ∷ more) [] = ⊥
 AreCaused defs tables (said ∷ more) (next ∷ trail) =
     IsCausedAt defs tables said.replies × AreCaused defs next more trail
 
--- The tables that may have been on their way to the disk: none, or those that
--- the block at which it failed leads to.
+-- The tables that may have been on their way to the disk: none where it didn't fail, else those that the
+-- block at which it failed leads to.
 abbrev pub AreFlying : Option Block → Tables → List Tables → Type 0
 AreFlying None last flying = flying ≡ []
 AreFlying (Some block) last flying =

@@ -21,11 +21,11 @@ with_replies (block ∷ blocks) [] = []
 with_replies (block ∷ blocks) (replies ∷ more) =
     record { block = block; replies = replies } ∷ with_replies blocks more
 
--- those of a section
+-- the blocks of a section that have replies
 abbrev pub said_by : SectionRun → List Said
 said_by run = with_replies (to_run run.section) run.said
 
--- those of all sections, one after the other
+-- the blocks of all sections that have replies, one after the other
 abbrev pub all_said : List SectionRun → List Said
 all_said runs = flat_map said_by runs
 
@@ -55,7 +55,8 @@ abbrev pub AreStopped : List SectionRun → Type 0
 AreStopped [] = Unit {0}
 AreStopped (run ∷ runs) = (run.halt ≡ Stopped → AllByRecursion IsUnrun runs) × AreStopped runs
 
--- what stops two parts of a run: a fault of the disk before memory that ran out
+-- what stops two parts of a run together: a fault of the disk where it stops either, else memory that ran
+-- out, else nothing
 abbrev pub worse : Halt → Halt → Halt
 worse Done other = other
 worse Stopped other = Stopped
@@ -63,7 +64,7 @@ worse OutOfMemory Done = OutOfMemory
 worse OutOfMemory Stopped = Stopped
 worse OutOfMemory OutOfMemory = OutOfMemory
 
--- what stops sections
+-- what stops some of the sections, the worst of it
 abbrev pub halt_of : List SectionRun → Halt
 halt_of [] = Done
 halt_of (run ∷ runs) = worse run.halt (halt_of runs)

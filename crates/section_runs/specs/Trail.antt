@@ -5,7 +5,8 @@ use Rattle.row_types.specs.Tables.{Tables}
 use Rattle.plain_model.specs.Blocks.{Said, block_means}
 use Rattle.list_store.specs.Log.{BeginsWith}
 
--- from the first tables on each block leads to the next ones, which are these
+-- each block, with its replies, leads from the tables before it to the next ones of the trail, the first
+-- block from the first tables
 abbrev pub Leads : Tables → List Said → List Tables → Type 0
 Leads first [] trail = trail ≡ []
 Leads first (said ∷ more) [] = ⊥
@@ -17,12 +18,12 @@ abbrev pub last_of : Tables → List Tables → Tables
 last_of first [] = first
 last_of first (next ∷ trail) = last_of next trail
 
--- the tables are some of these
+-- the tables are an element of this list
 abbrev pub IsAmong : Tables → List Tables → Type 0
 IsAmong tables [] = ⊥
 IsAmong tables (first ∷ more) = (tables ≡ first) ⊎ IsAmong tables more
 
--- over the log file a run begins with some of these tables
+-- over the log file a run begins with an element of this list of tables
 abbrev pub BeginsAmong : List TableDef → List Tables → List ℕ → Type 0
 BeginsAmong defs [] bytes = ⊥
 BeginsAmong defs (first ∷ more) bytes = BeginsWith defs first bytes ⊎ BeginsAmong defs more bytes

@@ -106,13 +106,14 @@ module _ {D : Type 0} (d : disk.Ghosts D) where
     pub same : d.content new ≡ d.content old
     pub calls : d.calls new ≡ d.calls old
 
-  -- Status 8: the log file is open but isn't a log of the tables that the setup asks for.
+  -- Status 8: for some tables the log file is open but isn't a log of them, and no call has changed it. That
+  -- these are the setup's tables, and that this place is printed, is in `Answers`.
   pub record StaysDamaged (old new : D) : Type 0 where
     pub defs : List TableDef
     pub at : ℕ
     pub reads : ForSome (d.content old) (λ bytes. log_reads defs bytes (DamagedAt at))
     pub untouched : IsUntouched old new
 
--- the statuses of a call that opened no log file, or found it damaged
+-- the statuses with which no call has changed the log file
 abbrev pub LeavesFile : ℕ → Type 0
 LeavesFile status = (status ≡ 2) ⊎ ((status ≡ 5) ⊎ ((status ≡ 7) ⊎ (status ≡ 8)))

@@ -8,7 +8,7 @@ use Rattle.script.specs.Script.{max_script}
 use Rattle.shell.specs.declared.input.InputFault.{InputFault}
 use Rattle.shell.specs.declared.input.InputFault.TheVariants.{Source, OutOfMemory}
 
--- so much is read at the most
+-- the most bytes that are read: one more than a script may have
 abbrev pub read_limit : ℕ
 read_limit = max_script + 1
 

@@ -23,7 +23,7 @@ IsLead (Alone text) (Create def) = IsRead text (Ok (statements.Create def))
 IsLead (Alone text) (NoStatement at) = IsRead text (Err at)
 IsLead (Transaction t) lead = ⊥
 
--- the refusal of a table with that verdict
+-- the refusal that a verdict on a table is; none where the table is accepted
 abbrev pub refused_as : Result (Unit {0}) SchemaFault → Option Refusal
 refused_as (Ok accepted) = None
 refused_as (Err fault) = refusal_of_schema fault
@@ -38,7 +38,7 @@ abbrev pub lead_reply : Tables → Lead → Reply
 lead_reply tables (Create def) = done_unless (refused_as (verdict (schema_of tables) def))
 lead_reply tables (NoStatement at) = Refused (Syntax at)
 
--- the tables behind it
+-- the tables after a leading statement
 abbrev pub behind_lead : Tables → Lead → Tables
 behind_lead tables (Create def) = with_table tables def
 behind_lead tables (NoStatement at) = tables
@@ -58,7 +58,7 @@ pub record IsDone (lead : Lead) (old : List TableDef) (reply : Reply) (new : Lis
   pub reply_is : (tables : Tables) → schema_of tables ≡ old → reply ≡ lead_reply tables lead
   pub new_is : (tables : Tables) → schema_of tables ≡ old → schema_of (behind_lead tables lead) ≡ new
 
--- the table that a statement asks for
+-- the table that a statement asks for, where it is a CREATE
 abbrev pub created_by : Statement → Option TableDef
 created_by (statements.Create def) = Some def
 created_by other = None

@@ -28,13 +28,13 @@ use Rattle.section_runs.specs.Trail.{BeginsAmong, Leads, last_of}
 use Rattle.shell.specs.Outcome.{OutcomeView, fault_alone}
 use Rattle.shell.specs.Ready.{AreReady}
 
--- the fault of a log file that isn't opened
+-- the fault that a call ends with whose log file wasn't opened
 abbrev pub fault_opening : OpenFault → Fault
 fault_opening (opening.Disk file) = Disk file
 fault_opening (opening.Damaged file at) = DamagedFault (File file at)
 fault_opening opening.OutOfMemory = Memory
 
--- the fault of sections that were stopped
+-- the fault that a run ends with, by what stopped its sections; none where nothing did
 abbrev pub fault_halting : Halt → Option Fault
 fault_halting Done = None
 fault_halting Stopped = Some (Disk (even_file 0))
@@ -80,8 +80,8 @@ module _ {D : Type 0} (d : Ghosts D) where
       × SectionsRan defs old shown new
       × (view ≡ record { fault = fault_halting (halt_of shown); shown = Some shown })
 
-  -- A script was run over the log file. Memory ran out before the file was opened; or the tables that the
-  -- setup asks for are these, and it wasn't opened, or the sections were run.
+  -- How the run of a script ended: memory ran out before the log file was touched; or the setup asks for
+  -- these tables, and the file couldn't be opened as their log, or the sections were run over it.
   abbrev pub Runs : Script → D → OutcomeView → D → Type 0
   Runs script old view new =
       ((view ≡ fault_alone Memory) × (new ≡ old))

@@ -10,8 +10,8 @@ use Rattle.shell.specs.Text.{status_of, text_of}
 abbrev pub Took : {K : Type 0} → Ghosts K → List ℕ → K → K → Type 0
 Took k bytes old new = k.taken new ≡ option_map (λ taken. taken ++ bytes) (k.taken old)
 
--- The sink took the text of the outcome, or one push failed, the last, and it took a front. The status is the
--- fault's, or 6 where there is none and the sink failed.
+-- The sink took the text of the outcome, or exactly one push failed and it took a front of it. The status is
+-- the fault's, or 6 where there is none and the sink failed.
 pub record Shows {K : Type 0} (k : Ghosts K) (view : OutcomeView) (old new : K) (status : ℕ) : Type 0 where
   pub front : List ℕ
   pub rest : List ℕ

@@ -28,7 +28,8 @@ bytes_in pool page = bytes_of_entry (slice_get pool page.block)
 abbrev pub IsTaken : List ℕ → List Bool → ℕ → ℕ → Type 0
 IsTaken bytes held len k = (get_or held k false ≡ true) ⊎ (slice_index bytes (k * len) ≢ 0)
 
--- slots have some bytes, and the first byte of each slot up to slot k lies outside of count bytes from offset on
+-- slots have some bytes, and the first byte of each slot up to slot k lies outside of count bytes from offset
+-- on
 abbrev pub LiesOutside : ℕ → ℕ → ℕ → ℕ → Type 0
 LiesOutside len offset count k =
     (1 ≤ len) × ((j : ℕ) → j ≤ k → (j * len < offset) ⊎ (offset + count ≤ j * len))

@@ -1,5 +1,5 @@
-//! Tables of rows for scripts and log files: what a run or an opening is given, and what has to come of it. They
-//! show what no clause says, above all that a call succeeds with ample memory.
+//! Tables of rows for scripts and log files: what a run or an opening is given, and what has to come of it.
+//! They show what no clause says, above all that a call succeeds with ample memory.
 #![tactic(auto)]
 
 #[cfg(test)]
