@@ -181,6 +181,37 @@ check_rows_in_pieces() {
     end_case rows_in_pieces
 }
 
+# A thousand times this text.
+thousand() {
+    yes "$1" | head -n 1000 | tr -d '\n'
+}
+
+# A block of 2,000 statements, and statements of 1,000 steps, columns, totals and conditions.
+check_long_statements() {
+    local folder="$fast/long_statements"
+    mkdir "$folder"
+    {
+        printf '%ssession 1\nINSERT INTO kv VALUES (1, 10), (2, 20);\nBEGIN;\n' "$kv_setup"
+        yes $'UPDATE kv SET n = n + 1;\nSELECT * FROM kv WHERE id = 3;' | head -n 2000
+        echo 'COMMIT;'
+        echo "UPDATE kv SET n = n$(thousand ' + 1');"
+        echo "SELECT id$(thousand ', n') FROM kv WHERE id = 1;"
+        echo "SELECT COUNT(*)$(thousand ', SUM(id)') FROM kv;"
+        echo "DELETE FROM kv WHERE id = 2$(thousand ' AND n <> 3');"
+        echo 'SELECT * FROM kv;'
+    } >"$fast/script"
+    {
+        printf '%sok 2\nok\n' "$kv_shown"
+        yes $'ok 2\nrows 0' | head -n 2000
+        printf 'ok\nok 2\n1%s\nrows 1\n2%s\nrows 1\n' "$(thousand ', 2010')" "$(thousand ', 3')"
+        printf 'ok 1\n1, 2010\nrows 1\n'
+    } >"$scratch/wanted"
+    run run "$folder" <"$fast/script" >"$scratch/stdout"
+    want_status 0
+    want_output "$scratch/wanted"
+    end_case long_statements
+}
+
 # With 20 MB of memory not all of 200,000 rows fit: the block that finds none is undone, it and those behind it are
 # stopped, and the next session runs. What was answered is in the file.
 check_out_of_memory() {
