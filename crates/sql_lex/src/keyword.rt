@@ -1,5 +1,6 @@
 // The words of the language, and how they are found.
-ghost use Rattle.std.specs.Prelude.{◌≡◌, ◌≢◌, ◌↔◌, map, IsTrue, IfSome, IfNone};
+ghost use Rattle.std.specs.Prelude.{◌≡◌, ◌≢◌, ◌↔◌, length, map, IsTrue, IfSome, IfNone};
+ghost use Rattle.std.specs.List.{Contains};
 ghost use Rattle.std.specs.Char.{to_ascii_lowercase};
 ghost use Rattle.sql_lex.specs.Letters.{letters};
 ghost use Rattle.sql_lex.specs.declared.keyword.Keyword.{Keyword};
@@ -38,39 +39,6 @@ pub enum Keyword {
     Varchar,
     Where,
 }
-
-const KEYWORDS: [Keyword; 30] = [
-    Keyword::And,
-    Keyword::Asc,
-    Keyword::Begin,
-    Keyword::Bigint,
-    Keyword::By,
-    Keyword::Checkpoint,
-    Keyword::Commit,
-    Keyword::Count,
-    Keyword::Create,
-    Keyword::Delete,
-    Keyword::Desc,
-    Keyword::From,
-    Keyword::Insert,
-    Keyword::Int,
-    Keyword::Integer,
-    Keyword::Into,
-    Keyword::Key,
-    Keyword::Limit,
-    Keyword::Order,
-    Keyword::Primary,
-    Keyword::Rollback,
-    Keyword::Select,
-    Keyword::Set,
-    Keyword::Sum,
-    Keyword::Table,
-    Keyword::Text,
-    Keyword::Update,
-    Keyword::Values,
-    Keyword::Varchar,
-    Keyword::Where,
-];
 
 impl Keyword {
     // In small letters.
@@ -118,14 +86,54 @@ impl Keyword {
     }
 }
 
+// The words of the language that have so many letters.
+fn of_len(len: usize) -> &'static [Keyword]
+    ensures { (keyword : Keyword) → length (letters keyword) ≡ len → Contains result.now keyword }
+{
+    match len {
+        2 => &[Keyword::By],
+        3 => &[
+            Keyword::Set,
+            Keyword::And,
+            Keyword::Int,
+            Keyword::Key,
+            Keyword::Sum,
+            Keyword::Asc,
+        ],
+        4 => &[Keyword::From, Keyword::Into, Keyword::Text, Keyword::Desc],
+        5 => &[
+            Keyword::Where,
+            Keyword::Begin,
+            Keyword::Order,
+            Keyword::Limit,
+            Keyword::Count,
+            Keyword::Table,
+        ],
+        6 => &[
+            Keyword::Values,
+            Keyword::Update,
+            Keyword::Select,
+            Keyword::Insert,
+            Keyword::Delete,
+            Keyword::Commit,
+            Keyword::Bigint,
+            Keyword::Create,
+        ],
+        7 => &[Keyword::Varchar, Keyword::Integer, Keyword::Primary],
+        8 => &[Keyword::Rollback],
+        10 => &[Keyword::Checkpoint],
+        _ => &[],
+    }
+}
+
 // The keyword that the word is, in whatever case it is written.
 pub(crate) fn keyword_of(word: &str) -> Option<Keyword>
     ensures some { IfSome result (λ k. map to_ascii_lowercase word.now ≡ letters k) }
     ensures none { IfNone result ((k : Keyword) → map to_ascii_lowercase word.now ≢ letters k) }
 {
-    for keyword in KEYWORDS {
+    for keyword in of_len(word.len()) {
         if keyword.is_spelled(word) {
-            return Some(keyword);
+            return Some(*keyword);
         }
     }
     None
