@@ -1,6 +1,6 @@
 // The calls on rows in a transaction.
-ghost use Rattle.std.specs.Prelude.{◌≡◌, ◌<◌, ◌≤◌, ◌⊎◌, ◌+◌, ℕ, List, ◌∷◌, length, Option, None, Some, IfOk};
-ghost use Rattle.std.specs.Prelude.{IfErr, IfSome, OnOk};
+ghost use Rattle.std.specs.Prelude.{◌≡◌, ◌≢◌, ◌<◌, ◌≤◌, ◌⊎◌, ◌+◌, ℕ, List, ◌∷◌, length, Option, None, Some};
+ghost use Rattle.std.specs.Prelude.{Err, IfErr, IfOk, IfSome, OnOk};
 ghost use Rattle.std.specs.List.{AllByRecursion};
 ghost use Rattle.row_types.specs.Schema.{columns_at};
 ghost use Rattle.row_types.specs.Slot.{IsRowOf};
@@ -136,7 +136,7 @@ impl TxnRows {
     }
 
     /// Goes back to the rows after the first `mark` operations, where none of the later ones went back to
-    /// fewer. That is an operation too.
+    /// fewer. That is an operation too, and takes no memory.
     pub fn undo_to(&mut self, mark: u64) -> Result<(), Stop>
         requires mark { (first : Tables) × (ops : List RowOp) × Running self.old first ops
             × IsMark ops mark }
@@ -145,6 +145,7 @@ impl TxnRows {
             → OnOk result (Running self.new first (UndoTo mark ∷ ops)) }
         ensures stopped { (first : Tables) (ops : List RowOp) → Running self.old first ops
             → IfErr result (LeftBy self.new first ops None) }
+        ensures has_memory { result ≢ Err Stop.OutOfMemory }
     {
         let count = self.next_count()?;
         self.go_back(mark);
@@ -159,6 +160,7 @@ impl TxnRows {
         ensures ok { IfOk result (λ count. (count ≡ self.new.count + 1) × (self.new ≡ self.old)) }
         ensures stopped { (first : Tables) (ops : List RowOp) (more : Option ℕ) → Running self.old first ops
             → IfErr result (LeftBy self.new first ops more) }
+        ensures has_memory { result ≢ Err Stop.OutOfMemory }
     {
         match self.count.checked_add(1) {
             Some(count) => Ok(count),
