@@ -1,14 +1,13 @@
 -- Runs of blocks one after the other.
-use Rattle.std.proofs.Common.{◌≡◌, ◌⊎◌, inl, inr, ⊎_elim, ℕ, List, [], ◌∷◌, ◌++◌, Option, None, Some, refl, sym, ◌∙◌, ap, subst, arith, append_assoc}
+use Rattle.std.proofs.Common.{◌≡◌, ◌⊎◌, inl, inr, ⊎_elim, ℕ, List, [], ◌∷◌, ◌++◌, Option, None, Some, refl, sym, ◌∙◌, ap, subst, append_assoc}
 use Rattle.std.proofs.lemmas.List.{append-nil}
-use Rattle.std.specs.List.{AllByRecursion}
 use Rattle.disk_core.specs.Moments.{LeavesNow, LeavesOnly}
 use Rattle.disk_core.specs.declared.disk.Disk.{Ghosts}
 use Rattle.disk_core.proofs.Moments.{joined, started, weaker}
 use Rattle.row_types.specs.declared.definition.TableDef.{TableDef}
 use Rattle.row_types.specs.declared.block.Block.{Block}
 use Rattle.row_types.specs.Tables.{Tables}
-use Rattle.plain_model.specs.Blocks.{Said, block_means}
+use Rattle.plain_model.specs.Blocks.{Said}
 use Rattle.plain_model.specs.declared.reply.Reply.{Reply}
 use Rattle.list_store.specs.Log.{IsLogOf}
 use Rattle.list_store.specs.Keeping.{Keeps, Secures, batches_in, defs_of, disk_of}

@@ -1,4 +1,4 @@
-use Rattle.std.proofs.Common.{rules, ◌≡◌, ◌≢◌, ◌<◌, List, [], ◌++◌, Option, None, Some, slice_get, length, refl, sym, ◌∙◌, ap, subst}
+use Rattle.std.proofs.Common.{rules, ◌≡◌, List, [], Option, None, slice_get, length, sym, ap, subst}
 use Rattle.disk_core.specs.declared.disk.Disk.{Ghosts}
 use Rattle.row_types.specs.declared.block.Block.{Block}
 use Rattle.plain_model.specs.Blocks.{Said}

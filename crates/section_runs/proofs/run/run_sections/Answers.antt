@@ -1,11 +1,11 @@
-use Rattle.std.proofs.Common.{rules, ◌≡◌, ◌≢◌, ◌+◌, ℕ, List, [], ◌∷◌, ◌++◌, map, length, vec_len, Option, None, refl, sym, ◌∙◌, ap, subst, arith}
+use Rattle.std.proofs.Common.{rules, ◌≡◌, ◌+◌, List, [], ◌∷◌, ◌++◌, map, Option, refl, sym, ◌∙◌, ap, subst, arith}
 use Rattle.std.proofs.lemmas.List.{map-append, length-append}
 use Rattle.std.specs.List.{AllByRecursion}
 use Rattle.row_types.specs.declared.block.Block.{Block}
 use Rattle.section_runs.specs.declared.section.ReadySection.{ReadySection}
 use Rattle.section_runs.specs.declared.section.SectionRun.{SectionRun}
 use Rattle.section_runs.specs.declared.section.Halt.{Halt}
-use Rattle.section_runs.specs.declared.section.Halt.TheVariants.{Done, Stopped}
+use Rattle.section_runs.specs.declared.section.Halt.TheVariants.{Done}
 use Rattle.section_runs.specs.Lasting.{Runs}
 use Rattle.list_store.specs.Keeping.{disk_of}
 use Rattle.section_runs.specs.Sections.{AreStopped, FailsAt, IsAnswered, all_said, faults_after, halt_of, stopped_in, worse}

@@ -1,8 +1,6 @@
-use Rattle.std.proofs.Common.{◌≡◌, ◌≢◌, ◌≤◌, ◌+◌, map, length, vec_len, vec_capacity}
+use Rattle.std.proofs.Common.{◌≡◌, ◌≤◌, map, length, vec_len, vec_capacity}
 use Rattle.std.specs.List.{AllByRecursion}
-use Rattle.row_types.specs.Tables.{Tables}
-use Rattle.list_store.specs.Keeping.{Keeps, disk_of}
-use Rattle.section_runs.specs.declared.section.Halt.TheVariants.{Stopped}
+use Rattle.list_store.specs.Keeping.{disk_of}
 use Rattle.section_runs.specs.Lasting.{Runs}
 use Rattle.section_runs.specs.Sections.{AreStopped, FailsAt, IsAnswered, all_said, faults_after, halt_of, stopped_in}
 use Rattle.section_runs.proofs.run.run_sections.Given as goal
