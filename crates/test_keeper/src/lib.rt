@@ -7,4 +7,6 @@ mod blocks;
 #[cfg(test)]
 mod limits;
 #[cfg(test)]
+mod long;
+#[cfg(test)]
 mod tries;
