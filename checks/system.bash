@@ -112,13 +112,13 @@ check_short_calls() {
     fi
     folder_with_row
     run_traced "$folder" "$one_insert" "$folder/lane0.even" "trace=$calls" -e inject=pwrite64:retval=5:when=2
-    want_transfers 'pread64 37 0' 'pwrite64 37 0' fdatasync 'pread64 1 0' 'pread64 8 1' 'pread64 2 9' 'pread64 26 11' \
-        'pwrite64 25 37' 'pwrite64 20 42' fdatasync 'pwrite64 1 36' fdatasync
+    want_transfers 'pread64 1 0' 'pread64 37 0' 'pwrite64 1 0' fdatasync 'pread64 1 0' 'pread64 8 1' 'pread64 2 9' \
+        'pread64 26 11' 'pwrite64 25 37' 'pwrite64 20 42' fdatasync 'pwrite64 1 36' fdatasync
     end_case 'short write'
 
     folder_with_row
-    run_traced "$folder" "$one_insert" "$folder/lane0.even" "trace=$calls" -e inject=pread64:retval=3:when=3
-    want_transfers 'pread64 37 0' 'pwrite64 37 0' fdatasync 'pread64 1 0' 'pread64 8 1' 'pread64 5 4'
+    run_traced "$folder" "$one_insert" "$folder/lane0.even" "trace=$calls" -e inject=pread64:retval=3:when=4
+    want_transfers 'pread64 1 0' 'pread64 37 0' 'pwrite64 1 0' fdatasync 'pread64 1 0' 'pread64 8 1' 'pread64 5 4'
     want_status 8
     end_case 'short read'
 
@@ -127,6 +127,28 @@ check_short_calls() {
     want_status 0
     want_shown $'session 1\nok 1\nok 1\nok 1\n'
     end_case 'short print'
+}
+
+# A log with a row, whose file is 200,000,000 bytes long, a hole behind the row: an opening fills nothing of it, and a script
+# that is none leads to no write and no sync.
+check_sparse_log() {
+    local folder blocks
+    folder_with_row
+    truncate -s 200000000 "$folder/lane0.even"
+    sync "$folder/lane0.even"
+    blocks="$(stat -c %b "$folder/lane0.even")"
+    step "$folder" 0 "$three_lookups" "$kv_shown"$'1, 10\nrows 1\nrows 0\nrows 0\n'
+    [ "$(stat -c %b "$folder/lane0.even")" -le "$blocks" ] || differs "the hole is filled"
+    end_case 'sparse_log looked up'
+
+    if ! can_trace; then
+        skip_cases 1 'sparse_log needs strace'
+        return
+    fi
+    run_traced "$folder" $'session 2\n' "$folder/lane0.even" trace=pwrite64,write,fdatasync,ftruncate
+    want_status 7
+    [ -s "$scratch/calls" ] && differs "the calls are $(calls_on_log | tr '\n' ';')"
+    end_case 'sparse_log and no script'
 }
 
 # The folder is synced once the file is made in it, and before a reply is printed.

@@ -4,6 +4,6 @@
 mod block;
 mod pool;
 
+pub use base_types::OutOfMemory;
 pub use block::Block;
-pub use causes::OutOfMemory;
 pub use pool::{Pool, PoolFull};

@@ -5,3 +5,4 @@ pub mod Lone
 pub mod Moments
 pub mod Places
 pub mod Plans
+pub mod Together

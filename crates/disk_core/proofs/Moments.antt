@@ -36,13 +36,14 @@ module _ {D : Type 0} (d : Ghosts D) where
 
   -- nothing was called
   pub unread : ((disk : D) (image : List ℕ) → d.left_since disk (d.moment disk) image → d.may_leave disk image) → (disk : D) → OnlyReads d disk disk
-  unread only_now disk = record { same = refl; none_new = λ image left. left; moments = started disk (d.may_leave disk) (only_now disk); later = omega arith }
+  unread only_now disk = record { same = refl; calls = refl; none_new = λ image left. left; moments = started disk (d.may_leave disk) (only_now disk); later = omega arith }
 
   -- one call more that changes nothing
-  pub one_read : (old mid new : D) → OnlyReads d old mid → d.content new ≡ d.content mid → NoneNew (d.may_leave mid) (d.may_leave new)
+  pub one_read : (old mid new : D) → OnlyReads d old mid → d.content new ≡ d.content mid → d.calls new ≡ d.calls mid → NoneNew (d.may_leave mid) (d.may_leave new)
       → Elapses (d.moment mid) (d.moment new) (d.left_since mid) (d.left_since new) (d.may_leave new) → d.faults mid ≤ d.faults new → OnlyReads d old new
-  one_read old mid new before same none time later = record {
+  one_read old mid new before same calls none time later = record {
     same = same ∙ before.same;
+    calls = calls ∙ before.calls;
     none_new = λ image left. before.none_new image (none image left);
     moments = goes_on old mid new (d.may_leave old) (d.may_leave new) before.moments time (λ image left. before.none_new image (none image left));
     later = omega (arith, before.later, later);
@@ -52,6 +53,7 @@ module _ {D : Type 0} (d : Ghosts D) where
   pub read_on : (old mid new : D) → OnlyReads d old mid → OnlyReads d mid new → OnlyReads d old new
   read_on old mid new first second = record {
     same = second.same ∙ first.same;
+    calls = second.calls ∙ first.calls;
     none_new = λ image left. first.none_new image (second.none_new image left);
     moments = joined old mid new (d.may_leave old) first.moments (weaker mid new (d.may_leave mid) (d.may_leave old) first.none_new second.moments);
     later = omega (arith, first.later, second.later);

@@ -9,3 +9,4 @@ pub mod HistoryView
 pub mod Memory
 pub mod Moments
 pub mod Places
+pub mod Together

@@ -1,7 +1,7 @@
 -- A disk in memory, whose calls fail where they are named or find too little room.
 use Rattle.std.specs.Prelude.{ℕ, ◌+◌, ◌-◌, ◌*◌, Bool, true, false, ◌&&◌, List, [], ◌∷◌, length, Option, None}
 use Rattle.std.specs.Prelude.{Some, Result, Ok, Err, is_err, nat_le, if◌then◌else◌}
-use Rattle.causes.specs.Causes.{one_more}
+use Rattle.base_types.specs.Causes.{one_more}
 use Rattle.disk_core.specs.ChangeCalls.{CallMade, WriteCall, SyncCall}
 use Rattle.disk_core.specs.History.{Change, Wrote, Tried, Synced, TriedSync, content_after, MayLeave}
 use Rattle.disk_core.specs.History.{LeftSince}

@@ -11,10 +11,11 @@ pub record LeavesOnly {D : Type 0} (d : Ghosts D) (old new : D) (P : List ℕ �
   pub before : (t : ℕ) (image : List ℕ) → t ≤ d.moment old → d.left_since new t image
       → d.left_since old t image ⊎ P image
 
--- The disk was only read: its bytes are the same, a crash at any moment leaves
--- what it might have left before, and the count of faults has not fallen.
+-- The disk was only read: its bytes are the same, no change was called for, a crash at any
+-- moment leaves what it might have left before, and the count of faults has not fallen.
 pub record OnlyReads {D : Type 0} (d : Ghosts D) (old new : D) : Type 0 where
   pub same : d.content new ≡ d.content old
+  pub calls : d.calls new ≡ d.calls old
   pub none_new : NoneNew (d.may_leave old) (d.may_leave new)
   pub moments : LeavesOnly d old new (d.may_leave old)
   pub later : d.faults old ≤ d.faults new

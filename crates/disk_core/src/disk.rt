@@ -1,6 +1,6 @@
 ghost use Rattle.std.specs.Prelude.{◌≡◌, ℕ, ◌+◌, ◌≤◌, List, [], ◌∷◌, length, Option, OnOk};
 ghost use Rattle.std.specs.Option.{ForSome};
-ghost use Rattle.causes.specs.Causes.{HasCause};
+ghost use Rattle.base_types.specs.Causes.{HasCause};
 ghost use Rattle.disk_core.specs.ChangeCalls.{CallMade, Made, SyncCall, WriteCall};
 ghost use Rattle.disk_core.specs.Crash.{Elapses, Follows, NoneNew, NothingPending, Tears};
 ghost use Rattle.disk_core.specs.Device.{Measures, Reads, Writes};

@@ -1,6 +1,6 @@
 // A file of the system. Its content and its calls aren't known, and it counts its faults.
-ghost use Rattle.std.specs.Prelude.{◌≡◌, None, true, length, IsTrue, IsNone, IsErr};
-ghost use Rattle.causes.specs.Causes.{HasCause};
+ghost use Rattle.std.specs.Prelude.{◌≡◌, None, true, false, length, IsTrue, IsNone, IsErr};
+ghost use Rattle.base_types.specs.Causes.{HasCause};
 ghost use Rattle.disk_core.specs.Crash.{Follows, Tears};
 ghost use Rattle.disk_core.specs.File.{AnyImage};
 ghost use Rattle.disk_core.specs.Memory.{faults_after};
@@ -13,9 +13,13 @@ use std::os::unix::fs::FileExt;
 
 /// A file of the system, read and written at places. A read, a write or a sync that a signal interrupts is
 /// made again, and one that reads or writes a part is continued.
+///
+/// Its first call, whichever it is, brings to the disk what a read of the file gives, so that nothing is
+/// pending. Where that fails, so does the call, and the next one tries it again.
 #[derive(Drop)]
 pub struct FileDisk {
     file: Option<File>,
+    is_settled: bool,
     faults: u64,
 }
 
@@ -29,17 +33,14 @@ impl Model for FileDisk {
 }
 
 impl FileDisk {
-    /// Brings to the disk what a read of the file gives, so that nothing is pending. Where that fails the
-    /// file counts as missing.
+    /// The disk of a file, which nobody else writes. It calls nothing.
     pub fn new(file: File) -> FileDisk
-        ensures { result.faults ≡ 0 }
+        ensures { result ≡ record { missing = false; faults = 0 } }
     {
-        match settle(&file) {
-            Ok(()) => FileDisk {
-                file: Some(file),
-                faults: 0,
-            },
-            Err(_) => FileDisk::missing(),
+        FileDisk {
+            file: Some(file),
+            is_settled: false,
+            faults: 0,
         }
     }
 
@@ -49,8 +50,22 @@ impl FileDisk {
     {
         FileDisk {
             file: None,
+            is_settled: false,
             faults: 0,
         }
+    }
+
+    /// Has nothing pending that was written before the file was opened.
+    fn settle(&mut self) -> Result<(), Failed>
+        ensures same { self.new ≡ self.old }
+        ensures missing { IsTrue self.old.missing → IsErr result }
+    {
+        let file = self.file.as_ref().ok_or(Failed)?;
+        if !self.is_settled {
+            settle(file).map_err(|_| Failed)?;
+            self.is_settled = true;
+        }
+        Ok(())
     }
 
     fn counted<T>(&mut self, answer: Result<T, Failed>) -> Result<T, Failed>
@@ -65,27 +80,57 @@ impl FileDisk {
     }
 }
 
-/// How many bytes are rewritten at once.
+/// The byte with which a file begins whose content counts.
+const OPEN: u8 = 1;
+
+/// The most bytes of a file that may count.
+const MOST: u64 = 67_108_865;
+
+/// How many bytes are read at once.
 const PIECE: usize = 8192;
 
-/// Writes the bytes of the file once more, and brings them to the disk. After a sync that failed in an
-/// earlier process the system takes a page for clean that never reached the disk, and gives it to each
-/// reader; written again, it is pending again.
+/// No file system marks fewer bytes as changed.
+const SECTOR: usize = 512;
+
+/// Has what counts of an open file written to the disk once more. After a sync that failed in an earlier process
+/// the system takes a page for clean that never reached the disk, and gives it to each reader. One byte written
+/// again makes its sector pending again, and a byte that is written alone can't be torn. Sectors of zeros, those
+/// of a hole among them, stay as they are: a gate is opened once all behind it was synced, so of what counts a
+/// failed sync can have lost nothing but an open gate.
 fn settle(file: &File) -> io::Result<()> {
-    let size = file.metadata()?.len();
-    for i in 0..size.div_ceil(PIECE as u64) {
-        rewrite(file, i * PIECE as u64, size)?;
+    let size = file.metadata()?.len().min(MOST);
+    if size > 0 && first_byte(file)? == OPEN {
+        for i in 0..size.div_ceil(PIECE as u64) {
+            settle_piece(file, i * PIECE as u64, size)?;
+        }
     }
     file.sync_data()
 }
 
-/// Writes the bytes from `at` on once more, as many as a piece has and the file of that size.
-fn rewrite(file: &File, at: u64, size: u64) -> io::Result<()> {
+fn first_byte(file: &File) -> io::Result<u8> {
+    let mut byte = [0];
+    file.read_exact_at(&mut byte, 0)?;
+    Ok(byte[0])
+}
+
+/// Settles the bytes from `at` on, as far as a piece goes and the file of that size.
+fn settle_piece(file: &File, at: u64, size: u64) -> io::Result<()> {
     let mut room = [0; PIECE];
     let len = size.saturating_sub(at).min(PIECE as u64) as usize;
-    let piece = &mut room[..len];
-    file.read_exact_at(piece, at)?;
-    file.write_all_at(piece, at)
+    file.read_exact_at(&mut room[..len], at)?;
+    touch_sectors(file, at, &room[..len])
+}
+
+/// Writes a byte again of each sector that isn't all zeros, of those that begin at `at`.
+fn touch_sectors(file: &File, at: u64, bytes: &[u8]) -> io::Result<()> {
+    let mut start = at;
+    for sector in bytes.chunks(SECTOR) {
+        if let Some(place) = sector.iter().position(|byte| *byte != 0) {
+            file.write_all_at(&[sector[place]], start.saturating_add(place as u64))?;
+        }
+        start = start.saturating_add(SECTOR as u64);
+    }
+    Ok(())
 }
 
 fn length_of(file: &Option<File>) -> Result<u64, Failed>
@@ -148,7 +193,8 @@ impl Disk for FileDisk {
         ensures missing { IsTrue self.old.missing → IsErr result }
         ensures counted { self.new ≡ record self.old { faults = faults_after result self.old.faults } }
     {
-        let length = length_of(&self.file);
+        let settled = self.settle();
+        let length = settled.and_then(|()| length_of(&self.file));
         self.counted(length)
     }
 
@@ -159,7 +205,8 @@ impl Disk for FileDisk {
         ensures missing { IsTrue self.old.missing → IsErr result }
         ensures counted { self.new ≡ record self.old { faults = faults_after result self.old.faults } }
     {
-        let read = read_exact(&self.file, at, into);
+        let settled = self.settle();
+        let read = settled.and_then(|()| read_exact(&self.file, at, into));
         self.counted(read)
     }
 
@@ -171,7 +218,8 @@ impl Disk for FileDisk {
         ensures missing { IsTrue self.old.missing → IsErr result }
         ensures counted { self.new ≡ record self.old { faults = faults_after result self.old.faults } }
     {
-        let written = write_all(&self.file, at, bytes);
+        let settled = self.settle();
+        let written = settled.and_then(|()| write_all(&self.file, at, bytes));
         self.counted(written)
     }
 
@@ -182,7 +230,8 @@ impl Disk for FileDisk {
         ensures missing { IsTrue self.old.missing → IsErr result }
         ensures counted { self.new ≡ record self.old { faults = faults_after result self.old.faults } }
     {
-        let synced = sync_data(&self.file);
+        let settled = self.settle();
+        let synced = settled.and_then(|()| sync_data(&self.file));
         self.counted(synced)
     }
 }

@@ -9,7 +9,7 @@ mod memory;
 mod store;
 mod tear;
 
-pub use causes::{Failed, OutOfMemory};
+pub use base_types::{Failed, OutOfMemory};
 pub use disk::Disk;
 pub use file::FileDisk;
 pub use memory::MemDisk;

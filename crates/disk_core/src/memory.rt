@@ -2,7 +2,7 @@
 ghost use Rattle.std.specs.Prelude.{◌≡◌, ◌⊎◌, ◌↔◌, ◌+◌, ◌<◌, ◌≤◌, List, ℕ, [], ◌∷◌, Some, length};
 ghost use Rattle.std.specs.Prelude.{slice_index, vec_len, vec_capacity};
 ghost use Rattle.std.specs.Prelude.{EachIndex, Contains, IsTrue, IsErr, IfOk, OnOk, OnErr};
-ghost use Rattle.causes.specs.Causes.{HasCause, one_more};
+ghost use Rattle.base_types.specs.Causes.{HasCause, one_more};
 ghost use Rattle.disk_core.specs.ChangeCalls.{Made, SyncCall, WriteCall};
 ghost use Rattle.disk_core.specs.Crash.{Elapses, Follows, NoneNew, Only, Tears};
 ghost use Rattle.disk_core.specs.Device.{Measures, Reads, Writes, written};

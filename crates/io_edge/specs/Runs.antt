@@ -1,7 +1,7 @@
 -- What several pulls have done together. A source is told by the record of its ghost members.
 use Rattle.std.specs.Prelude.{◌≡◌, ℕ, true, List, length, take}
 use Rattle.std.specs.Option.{option_map, ForSome}
-use Rattle.causes.specs.Causes.{one_more}
+use Rattle.base_types.specs.Causes.{one_more}
 use Rattle.io_edge.specs.Content.{after_giving}
 use Rattle.io_edge.specs.declared.source.Source.{Ghosts}
 

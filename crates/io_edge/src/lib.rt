@@ -7,7 +7,7 @@ mod source;
 mod standard;
 mod word;
 
-pub use causes::{Failed, OutOfMemory};
+pub use base_types::{Failed, OutOfMemory};
 pub use memory::{MemSink, MemSource};
 pub use sink::Sink;
 pub use source::Source;

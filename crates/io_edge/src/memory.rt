@@ -1,7 +1,7 @@
 // Sources and sinks in memory, whose content is known. They fail at the calls that are named.
 ghost use Rattle.std.specs.Prelude.{◌≡◌, ◌⊎◌, ◌↔◌, ◌+◌, ◌<◌, ◌≤◌, [], false, length, drop, is_err, min};
 ghost use Rattle.std.specs.Prelude.{Contains, IsErr, IfOk, OnErr, vec_capacity};
-ghost use Rattle.causes.specs.Causes.{HasCause, one_more};
+ghost use Rattle.base_types.specs.Causes.{HasCause, one_more};
 ghost use Rattle.io_edge.specs.Content.{Pulls};
 ghost use Rattle.io_edge.specs.Pushing.{Pushes};
 

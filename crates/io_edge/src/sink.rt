@@ -1,5 +1,5 @@
 ghost use Rattle.std.specs.Prelude.{ℕ, List, Option};
-ghost use Rattle.causes.specs.Causes.{HasCause};
+ghost use Rattle.base_types.specs.Causes.{HasCause};
 ghost use Rattle.io_edge.specs.Pushing.{Pushes};
 
 use crate::Failed;

@@ -1,5 +1,5 @@
 ghost use Rattle.std.specs.Prelude.{◌≡◌, ℕ, ◌≤◌, Bool, is_err, length, Option, IfOk};
-ghost use Rattle.causes.specs.Causes.{HasCause};
+ghost use Rattle.base_types.specs.Causes.{HasCause};
 ghost use Rattle.io_edge.specs.Content.{Content, Pulls};
 
 use crate::Failed;

@@ -1,6 +1,6 @@
 // Standard input and output. Their content isn't known, and they count their faults.
 ghost use Rattle.std.specs.Prelude.{◌≡◌, ◌≤◌, None, false, is_err, length, IfOk};
-ghost use Rattle.causes.specs.Causes.{HasCause};
+ghost use Rattle.base_types.specs.Causes.{HasCause};
 
 use crate::{Failed, Sink, Source};
 use std::io::{ErrorKind, Read, Stdin, Stdout, Write};

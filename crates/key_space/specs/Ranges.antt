@@ -1,5 +1,5 @@
 -- Ranges of keys.
-use Rattle.std.specs.Prelude.{ℕ, ◌≤◌, Bool, ◌&&◌, nat_le}
+use Rattle.std.specs.Prelude.{ℕ, ◌+◌, ◌≤◌, Bool, ◌&&◌, nat_le, Option, None, Some, if◌then◌else◌}
 use Rattle.key_space.specs.declared.range.Range.{Range}
 
 -- some key lies in the range
@@ -18,3 +18,8 @@ shares a b = nat_le a.lo.number b.hi.number && nat_le b.lo.number a.hi.number
 -- each key of b lies in a, where b isn't empty
 abbrev pub covers : Range → Range → Bool
 covers a b = nat_le a.lo.number b.lo.number && nat_le b.hi.number a.hi.number
+
+-- the part of a range from the next key on; none where the key reaches to its end
+abbrev pub behind : Range → ℕ → Option Range
+behind range key =
+    if nat_le range.hi.number key then None else Some (record range { lo = record range.lo { number = key + 1 } })

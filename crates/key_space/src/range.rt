@@ -1,6 +1,6 @@
 // Ranges of keys.
-ghost use Rattle.std.specs.Prelude.{◌≡◌, ◌↔◌, ◌≤◌, ℕ, IsTrue};
-ghost use Rattle.key_space.specs.Ranges.{IsIn, shares, covers};
+ghost use Rattle.std.specs.Prelude.{◌≡◌, ◌↔◌, ◌≤◌, ◌<◌, ℕ, IsTrue, IfSome, None};
+ghost use Rattle.key_space.specs.Ranges.{IsIn, behind, shares, covers};
 
 use crate::Key;
 
@@ -12,7 +12,7 @@ pub struct Range {
 }
 
 impl Range {
-    ghost use Rattle.key_space.specs.Ranges.{IsIn, IsNotEmpty, shares, covers};
+    ghost use Rattle.key_space.specs.Ranges.{IsIn, IsNotEmpty, behind, shares, covers};
 
     /// Whether a key lies in both.
     pub fn overlaps(&self, o: &Range) -> bool
@@ -32,5 +32,24 @@ impl Range {
         ensures test { result ≡ covers self.now o.now }
     {
         self.lo <= o.lo && o.hi <= self.hi
+    }
+
+    /// The keys of the range above one of them. `None`: it is the last.
+    pub fn behind(self, key: Key) -> Option<Range>
+        requires { IsIn self key.number }
+        ensures value { result ≡ behind self key.number }
+        ensures keys { IfSome result
+            (λ rest. (k : ℕ) → IsIn rest k ↔ (IsIn self k × (key.number < k))) }
+        ensures none { result ≡ None → key.number ≡ self.hi.number }
+    {
+        if key >= self.hi {
+            return None;
+        }
+        Some(Range {
+            lo: Key {
+                number: key.number + 1,
+            },
+            hi: self.hi,
+        })
     }
 }

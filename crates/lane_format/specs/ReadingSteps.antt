@@ -2,7 +2,7 @@
 use Rattle.std.specs.Prelude.{◌≡◌, ℕ, ◌+◌, List, ◌++◌, length, drop, Option, None, Some, Result, Ok, Err}
 use Rattle.std.specs.List.{flat_map}
 use Rattle.std.specs.Option.{ForSome}
-use Rattle.causes.specs.Causes.{one_more}
+use Rattle.base_types.specs.Causes.{one_more}
 use Rattle.lane_format.specs.Lane.{IsBody, IsNotOpen, batch_text}
 use Rattle.lane_format.specs.LaneRead.{DamagedAt, HasBatches, Holding, LacksBatch, LaneRead, NotOpen, placed}
 use Rattle.lane_format.specs.declared.segment.Batch.{Batch}

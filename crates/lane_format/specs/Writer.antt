@@ -1,7 +1,7 @@
 -- What a lane writer knows of its file, and how its calls fail.
 use Rattle.std.specs.Prelude.{◌≡◌, ◌↔◌, ℕ, ◌%◌, ◌<◌, ◌≤◌, ◌^◌, false, List, length, Result, Err, OnOk}
 use Rattle.std.specs.Option.{ForSome}
-use Rattle.causes.specs.Causes.{one_more}
+use Rattle.base_types.specs.Causes.{one_more}
 use Rattle.disk_core.specs.declared.disk.Disk.{Ghosts}
 use Rattle.disk_core.specs.declared.store.FileName.{FileName}
 use Rattle.disk_core.specs.declared.store.FileName.TheVariants.{Lane}

@@ -3,6 +3,7 @@
 
 mod frame;
 mod laws;
+mod numbers;
 mod read;
 mod segment;
 mod steps;
@@ -12,6 +13,7 @@ mod writer;
 
 pub use disk_core::{Disk, Failed, FileName};
 pub use laws::{one_reading, reads_what_was_written, some_reading};
+pub use numbers::{BATCH_HEAD, CLOSED, FIRST_GATE, OPEN};
 pub use read::read_segment;
 pub use segment::{Batch, LaneReadFault, Segment};
 pub use writer::{LaneFault, LaneWriter, Stage};

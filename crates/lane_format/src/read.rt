@@ -3,7 +3,7 @@ ghost use Rattle.std.specs.Prelude.{◌≡◌, ◌≢◌, ◌↔◌, ◌+◌, �
 ghost use Rattle.std.specs.Prelude.{IsTrue, IfOk, IfErr, IfSome, OnOk};
 ghost use Rattle.std.specs.Int.{w32, from_le_bytes, to_le_bytes};
 ghost use Rattle.std.specs.Option.{ForSome};
-ghost use Rattle.causes.specs.Causes.{HasCause, one_more};
+ghost use Rattle.base_types.specs.Causes.{HasCause, one_more};
 ghost use Rattle.disk_core.specs.Moments.{OnlyReads};
 ghost use Rattle.disk_core.specs.declared.store.FileName.{FileName};
 ghost use Rattle.lane_format.specs.Lane.{IsNotOpen, IsOpen};
@@ -12,18 +12,12 @@ ghost use Rattle.lane_format.specs.LaneRead.{lane_reads, read_as};
 ghost use Rattle.lane_format.specs.ReadingSteps.{NextIs, ReadTo, StopHasCause, StopsAt, found_as};
 ghost use Rattle.lane_format.specs.Windows.{IsWindow};
 
-use crate::steps::FIRST_GATE;
 use crate::stop::ReadStop;
 use crate::window::Window;
-use crate::{Batch, LaneReadFault, Segment};
+use crate::{BATCH_HEAD, Batch, FIRST_GATE, LaneReadFault, OPEN, Segment};
+use base_types::Items;
 use disk_core::{Disk, Failed, FileName};
-use sqlite_items::Items;
 use std::alloc::Global;
-
-const OPEN: u8 = 1;
-
-/// How many bytes stand before a body: its gate and its length.
-const BATCH_HEAD: u64 = 5;
 
 /// Reads the file of a lane, that of odd generations or that of even ones: None where its gate isn't open.
 /// `Damaged` names the first place at which an open file isn't what a lane file holds. The time is linear in
@@ -40,7 +34,6 @@ pub fn read_segment<D: Disk>(
 
     // The disk is only read. A fault names the file, and comes where one call of the disk failed.
     ensures only_reads { OnlyReads D.Disk disk.old disk.new }
-    ensures calls { D.calls disk.new ≡ D.calls disk.old }
     ensures disk { (file : FileName) → result ≡ Err (LaneReadFault.Disk file) →
         (file ≡ FileName.Lane lane odd) × (D.faults disk.new ≡ one_more (D.faults disk.old)) }
     ensures damaged { (file : FileName) (at : ℕ) → result ≡ Err (LaneReadFault.Damaged file at) →
@@ -66,7 +59,6 @@ fn read<D: Disk>(
     ensures segment { ForSome (D.content disk.old) (λ bytes.
         IfSome (found_as result) (lane_reads odd lane bytes)) }
     ensures only_reads { OnlyReads D.Disk disk.old disk.new }
-    ensures calls { D.calls disk.new ≡ D.calls disk.old }
     ensures cause { StopHasCause (D.faults disk.old) (D.faults disk.new) result }
 {
     let size = disk.size()?;
@@ -87,7 +79,6 @@ fn is_open<D: Disk>(disk: &mut D, size: u64) -> Result<bool, Failed>
     ensures gate { IfOk result (λ is_open. ForSome (D.content disk.old) (λ bytes.
         IsTrue is_open ↔ IsOpen bytes)) }
     ensures only_reads { OnlyReads D.Disk disk.old disk.new }
-    ensures calls { D.calls disk.new ≡ D.calls disk.old }
     ensures cause { HasCause (D.faults disk.old) (D.faults disk.new) result }
 {
     if size == 0 {
@@ -107,7 +98,6 @@ fn read_head<D: Disk>(disk: &mut D, size: u64, odd: bool, lane: u16) -> Result<u
     ensures damaged { (at : ℕ) → result ≡ Err (ReadStop.Damaged at) →
         ForSome (D.content disk.old) (λ bytes. IsDamaged odd lane bytes at) }
     ensures only_reads { OnlyReads D.Disk disk.old disk.new }
-    ensures calls { D.calls disk.new ≡ D.calls disk.old }
     ensures cause { StopHasCause (D.faults disk.old) (D.faults disk.new) result }
 {
     if size < FIRST_GATE {
@@ -143,7 +133,6 @@ fn read_batches<D: Disk>(alloc: Global, disk: &mut D, size: u64) -> Result<Vec<B
         ForSome (D.content disk.old) (λ bytes. (batches : List Batch)
         × ReadTo bytes batches at × LacksBatch (drop at bytes)) }
     ensures only_reads { OnlyReads D.Disk disk.old disk.new }
-    ensures calls { D.calls disk.new ≡ D.calls disk.old }
     ensures cause { StopHasCause (D.faults disk.old) (D.faults disk.new) result }
 {
     let mut window = Window::new();
@@ -177,7 +166,6 @@ fn read_batch<D: Disk>(
     ensures damaged { IfErr result (StopsAt (D.content disk.old) gate) }
     ensures window { OnOk result (IsWindow (D.content disk.old) window.new) }
     ensures only_reads { OnlyReads D.Disk disk.old disk.new }
-    ensures calls { D.calls disk.new ≡ D.calls disk.old }
     ensures cause { StopHasCause (D.faults disk.old) (D.faults disk.new) result }
 {
     if !has_open_gate(disk, window, size, gate)? {
@@ -208,7 +196,6 @@ fn has_open_gate<D: Disk>(
     ensures inside { IfOk result (λ is_open. IsTrue is_open → gate + 1 ≤ size) }
     ensures window { OnOk result (IsWindow (D.content disk.old) window.new) }
     ensures only_reads { OnlyReads D.Disk disk.old disk.new }
-    ensures calls { D.calls disk.new ≡ D.calls disk.old }
     ensures cause { HasCause (D.faults disk.old) (D.faults disk.new) result }
 {
     if gate == size {
@@ -235,7 +222,6 @@ fn body_len<D: Disk>(
     ensures damaged { IfErr result (StopsAt (D.content disk.old) gate) }
     ensures window { OnOk result (IsWindow (D.content disk.old) window.new) }
     ensures only_reads { OnlyReads D.Disk disk.old disk.new }
-    ensures calls { D.calls disk.new ≡ D.calls disk.old }
     ensures cause { StopHasCause (D.faults disk.old) (D.faults disk.new) result }
 {
     if size - gate < BATCH_HEAD {

@@ -1,5 +1,5 @@
 use crate::FileName;
-use sqlite_items::Items;
+use base_types::Items;
 use thiserror::Error;
 
 /// A batch of a lane file: the place at which its body begins, and the body.

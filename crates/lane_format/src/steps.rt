@@ -3,7 +3,7 @@
 ghost use Rattle.std.specs.Prelude.{◌≡◌, ◌<◌, ◌≤◌, ◌^◌, ◌++◌, [], ◌∷◌, ℕ, List, length, IsSome, OnOk};
 ghost use Rattle.std.specs.Option.{ForSome, option_map};
 ghost use Rattle.std.specs.Int.{w16, w64, to_le_bytes};
-ghost use Rattle.causes.specs.Causes.{HasCause};
+ghost use Rattle.base_types.specs.Causes.{HasCause};
 ghost use Rattle.disk_core.specs.ChangeCalls.{Made, SyncCall, WriteCall};
 ghost use Rattle.disk_core.specs.Crash.{Follows, NothingPending, Tears};
 ghost use Rattle.disk_core.specs.Device.{written};
@@ -13,14 +13,8 @@ ghost use Rattle.lane_format.specs.Lane.{IsBody, IsHead, IsLane, IsNotOpen};
 ghost use Rattle.lane_format.specs.Lane.{emptied, extended, frame_text, lane_text, shut};
 ghost use Rattle.lane_format.specs.Plans.{append_calls, close_calls, reset_calls};
 
+use crate::{CLOSED, FIRST_GATE, OPEN};
 use disk_core::{Disk, Failed};
-
-const CLOSED: u8 = 0;
-
-const OPEN: u8 = 1;
-
-/// Where the gate of a lane with no batch lies, behind the file's gate, the generation and the lane.
-pub(crate) const FIRST_GATE: u64 = 11;
 
 /// Writes these bytes and brings them to where a crash leaves them.
 fn put<D: Disk>(disk: &mut D, at: u64, bytes: &[u8]) -> Result<(), Failed>

@@ -16,7 +16,7 @@ pub(crate) struct Window {
 impl Window {
     ghost use Rattle.std.specs.Prelude.{◌≡◌, ◌+◌, ◌≤◌, ℕ, length, OnOk};
     ghost use Rattle.std.specs.Option.{ForSome};
-    ghost use Rattle.causes.specs.Causes.{HasCause};
+    ghost use Rattle.base_types.specs.Causes.{HasCause};
     ghost use Rattle.disk_core.specs.Device.{Reads};
     ghost use Rattle.disk_core.specs.Moments.{OnlyReads};
     ghost use Rattle.lane_format.specs.Windows.{Covers, IsWindow};
@@ -47,7 +47,6 @@ impl Window {
         ensures bytes { Reads (D.content disk.old) at result into.new }
         ensures window { OnOk result (IsWindow (D.content disk.old) self.new) }
         ensures only_reads { OnlyReads D.Disk disk.old disk.new }
-        ensures calls { D.calls disk.new ≡ D.calls disk.old }
         ensures cause { HasCause (D.faults disk.old) (D.faults disk.new) result }
     {
         let n = into.len();
@@ -69,7 +68,6 @@ impl Window {
         ensures covers { OnOk result (Covers at n self.new) }
         ensures window { OnOk result (IsWindow (D.content disk.old) self.new) }
         ensures only_reads { OnlyReads D.Disk disk.old disk.new }
-        ensures calls { D.calls disk.new ≡ D.calls disk.old }
         ensures cause { HasCause (D.faults disk.old) (D.faults disk.new) result }
     {
         if self.at <= at && at - self.at + n as u64 <= self.len as u64 {
@@ -85,7 +83,6 @@ impl Window {
         ensures covers { OnOk result ((n : ℕ) → at + n ≤ size → n ≤ PIECE → Covers at n self.new) }
         ensures window { OnOk result (IsWindow (D.content disk.old) self.new) }
         ensures only_reads { OnlyReads D.Disk disk.old disk.new }
-        ensures calls { D.calls disk.new ≡ D.calls disk.old }
         ensures cause { HasCause (D.faults disk.old) (D.faults disk.new) result }
     {
         let len = (size - at).min(PIECE as u64) as usize;

@@ -1,4 +1,4 @@
-use crate::{frame, steps};
+use crate::{FIRST_GATE, frame, steps};
 use disk_core::{Disk, Failed, FileName};
 use thiserror::Error;
 
@@ -150,7 +150,7 @@ impl<D: Disk> LaneWriter<D> {
         let done = steps::reset(&mut self.disk, generation, self.lane);
         let next = Stage::Open {
             generation,
-            gate: steps::FIRST_GATE,
+            gate: FIRST_GATE,
         };
         self.finish(done, next)
     }

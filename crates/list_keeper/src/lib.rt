@@ -9,6 +9,6 @@ mod keeper;
 mod rows;
 mod state;
 
-pub use causes::OutOfMemory;
+pub use base_types::OutOfMemory;
 pub use fault::LoadFault;
 pub use keeper::ListKeeper;

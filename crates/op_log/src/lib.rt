@@ -7,7 +7,7 @@ mod number;
 mod read;
 mod write;
 
-pub use causes::OutOfMemory;
+pub use base_types::OutOfMemory;
 pub use change::{ChangeFault, RowChange};
 pub use laws::{one_change, one_front, reads_what_was_written};
 pub use read::{Front, read_body, read_change};

@@ -2,7 +2,7 @@
 use Rattle.std.proofs.Common.{◌≡◌, ℕ, true, false, List, [], ◌∷◌, ◌++◌, take, drop, Option, Some, None, MatchOption, Result, Ok, Err, is_err, refl, sym, ◌∙◌, ap, subst, append_assoc, take-append-drop}
 use Rattle.std.proofs.lemmas.List.{append-nil}
 use Rattle.std.specs.Option.{option_map}
-use Rattle.causes.specs.Causes.{HasCause, one_more}
+use Rattle.base_types.specs.Causes.{HasCause, one_more}
 use Rattle.io_edge.specs.Pushing.{Pushes}
 use Rattle.reply_text.specs.Printed.{IsPrinted}
 use Rattle.reply_text.specs.declared.printer.Printer.{Printer}

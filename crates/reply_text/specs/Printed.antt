@@ -1,7 +1,7 @@
 -- What a printer has brought to its sink.
 use Rattle.std.specs.Prelude.{◌≡◌, ℕ, true, false, List, [], ◌++◌, Option, Result, OnOk, OnErr}
 use Rattle.std.specs.Option.{option_map}
-use Rattle.causes.specs.Causes.{one_more}
+use Rattle.base_types.specs.Causes.{one_more}
 use Rattle.io_edge.specs.declared.sink.Sink.{Ghosts}
 use Rattle.reply_text.specs.declared.printer.Printer.{Printer}
 

@@ -128,7 +128,7 @@ place_text (places.SameKey table key) = codes "key " ++ (decimal table ++ (codes
 -- what a last line says behind its first word
 abbrev pub fault_text : Fault → List ℕ
 fault_text faults.Usage = codes "USAGE"
-fault_text faults.Memory = codes "MEMORY"
+fault_text faults.OutOfMemory = codes "MEMORY"
 fault_text (faults.Disk file) = codes "DISK " ++ file_text file
 fault_text faults.Source = codes "SOURCE"
 fault_text (faults.Script at) = codes "SCRIPT " ++ decimal at

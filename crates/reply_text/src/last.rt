@@ -25,7 +25,7 @@ pub enum Fault {
     /// The words are no form of the command.
     Usage,
     /// No memory was found.
-    Memory,
+    OutOfMemory,
     /// The disk of this file failed.
     Disk(FileName),
     /// The source failed.
@@ -58,7 +58,7 @@ fn print_fault<K: Sink>(fault: Fault, printer: &mut Printer, sink: &mut K)
 {
     match fault {
         Fault::Usage => printer.print(sink, "USAGE"),
-        Fault::Memory => printer.print(sink, "MEMORY"),
+        Fault::OutOfMemory => printer.print(sink, "MEMORY"),
         Fault::Disk(file) => {
             printer.print(sink, "DISK ");
             print_file(file, printer, sink);

@@ -4,5 +4,5 @@
 
 mod row_list;
 
-pub use causes::OutOfMemory;
+pub use base_types::OutOfMemory;
 pub use row_list::{Before, Piece, RowList};

@@ -28,7 +28,7 @@ module _ (front : List Column) (count i : ℕ) (bytes : List ℕ) (total : Optio
 
   pub columns_end : (e : ReadError) → i < count → FailsToRead e (column_at bytes) → with_front front (columns_from (count - i) bytes) ≡ total → FailsToRead e total
   unfolding columns_from
-  columns_end errors.Memory lt h so_far = tt
+  columns_end errors.OutOfMemory lt h so_far = tt
   columns_end errors.Invalid lt h so_far =
       let k : count - i ≡ suc (count - (i + 1)) = omega arith in
       let one : with_front front (columns_from (count - i) bytes) ≡ None = rw (k, h) refl in
@@ -52,7 +52,7 @@ module _ (tables : List TableDef) (count i : ℕ) (bytes : List ℕ) (total : Op
 
   pub tables_end : (e : ReadError) → i < count → FailsToRead e (table_at bytes) → tables_from (count - i) tables bytes ≡ total → FailsToRead e total
   unfolding tables_from
-  tables_end errors.Memory lt h so_far = tt
+  tables_end errors.OutOfMemory lt h so_far = tt
   tables_end errors.Invalid lt h so_far =
       let k : count - i ≡ suc (count - (i + 1)) = omega arith in
       let one : tables_from (count - i) tables bytes ≡ None = rw (k, h) refl in
@@ -73,13 +73,13 @@ module _ (tables : List TableDef) (count i : ℕ) (bytes : List ℕ) (total : Op
       sym so_far ∙ one
 
   pub tables_refused : (e : ReadError) (t : TableDef) (after : List ℕ) → i < count → table_at bytes ≡ Some (t, after) → (e ≡ errors.Invalid → IsSome (refusal tables t)) → tables_from (count - i) tables bytes ≡ total → FailsToRead e total
-  tables_refused errors.Memory t after lt h some so_far = tt
+  tables_refused errors.OutOfMemory t after lt h some so_far = tt
   tables_refused errors.Invalid t after lt h some so_far = tables_refuse t after lt h (ap not (some refl)) so_far
 
 module _ (bytes : List ℕ) (count : ℕ) (rest : List ℕ) (begins : byte_at bytes ≡ Some (count, rest)) where
   pub schema_fails : (e : ReadError) → FailsToRead e (tables_from count [] rest) → FailsToRead e (schema_at bytes)
   unfolding schema_at
-  schema_fails errors.Memory fails = tt
+  schema_fails errors.OutOfMemory fails = tt
   schema_fails errors.Invalid fails = rw (begins, fails) refl
 
   pub schema_whole : (tables : List TableDef) (after : List ℕ) → tables_from count [] rest ≡ Some (tables, after) → length after ≡ 0 → schema_at bytes ≡ Some tables

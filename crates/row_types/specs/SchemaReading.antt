@@ -19,7 +19,7 @@ None >>= f = None
 
 -- the failure of a reading: memory ran out, or nothing is read
 abbrev pub FailsToRead : {Y : Type 0} → ReadError → Option Y → Type 0
-FailsToRead errors.Memory read = Unit {0}
+FailsToRead errors.OutOfMemory read = Unit {0}
 FailsToRead errors.Invalid read = read ≡ None
 
 -- what a function returned, seen by view, is what reading gives, unless memory ran out

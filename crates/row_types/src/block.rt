@@ -45,13 +45,6 @@ impl PlacedText {
     {
         &self.text
     }
-
-    /// Its text, without a copy.
-    pub fn into_text(self) -> Text
-        ensures { result ≡ self.text }
-    {
-        self.text
-    }
 }
 
 impl TryCopy for PlacedText {

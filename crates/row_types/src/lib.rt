@@ -3,6 +3,7 @@
 #![tactic(auto)]
 
 mod block;
+mod columns;
 mod definition;
 mod fault;
 mod page;
@@ -13,12 +14,12 @@ mod schema_text;
 mod slot;
 mod text;
 
+pub use base_types::{Items, OutOfMemory, TryCopy};
 pub use block::{Block, BlockEnd, PlacedText, Transaction};
-pub use causes::OutOfMemory;
+pub use columns::Columns;
 pub use definition::{Column, Kind, TableDef};
 pub use fault::{SchemaFault, SlotFault};
 pub use page::slots_hold_their_rows;
-pub use plain_items::{Items, TryCopy};
 pub use row::{Row, Value, int_at};
 pub use schema::{Schema, created_are_tables};
 pub use schema_slots::one_slot;

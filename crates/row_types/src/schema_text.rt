@@ -9,7 +9,7 @@ ghost use Rattle.row_types.specs.SchemaText.{Puts};
 ghost use Rattle.row_types.specs.SchemaReading.{ReadsAs, byte_at, is_name, name_at, limit_at, kind_at};
 ghost use Rattle.row_types.specs.SchemaReading.{column_at, columns_from, table_at, schema_at};
 ghost use Rattle.row_types.specs.declared.definition.TableDef.{TableDef};
-ghost use Rattle.row_types.specs.declared.schema_text.ReadError.TheVariants.{Memory, Invalid};
+ghost use Rattle.row_types.specs.declared.schema_text.ReadError.TheVariants.{OutOfMemory, Invalid};
 
 use crate::{Column, Items, Kind, Name, OutOfMemory, Schema, SchemaFault, TableDef};
 use std::alloc::{AllocError, AllocFailed, Global};
@@ -50,7 +50,7 @@ impl Schema {
         match schema_of(alloc, from) {
             Ok(schema) => Ok(Some(schema)),
             Err(ReadError::Invalid) => Ok(None),
-            Err(ReadError::Memory) => Err(OutOfMemory),
+            Err(ReadError::OutOfMemory) => Err(OutOfMemory),
         }
     }
 }
@@ -64,30 +64,30 @@ pub fn schema_texts_are_short()
 #[derive(Clone, Copy, Debug, PartialEq, Eq, Drop)]
 enum ReadError {
     Invalid,
-    Memory,
+    OutOfMemory,
 }
 
 impl From<OutOfMemory> for ReadError {
-    ghost from_gives = { λ _ e. e ≡ Memory };
+    ghost from_gives = { λ _ e. e ≡ OutOfMemory };
 
     fn from(_: OutOfMemory) -> ReadError {
-        ReadError::Memory
+        ReadError::OutOfMemory
     }
 }
 
 impl From<AllocError> for ReadError {
-    ghost from_gives = { λ _ e. e ≡ Memory };
+    ghost from_gives = { λ _ e. e ≡ OutOfMemory };
 
     fn from(_: AllocError) -> ReadError {
-        ReadError::Memory
+        ReadError::OutOfMemory
     }
 }
 
 impl<T: Drop> From<AllocFailed<T>> for ReadError {
-    ghost from_gives = { λ _ e. e ≡ Memory };
+    ghost from_gives = { λ _ e. e ≡ OutOfMemory };
 
     fn from(_: AllocFailed<T>) -> ReadError {
-        ReadError::Memory
+        ReadError::OutOfMemory
     }
 }
 
@@ -195,7 +195,7 @@ fn add_next(schema: &mut Schema, table: TableDef) -> Result<(), ReadError>
 {
     match schema.add(table) {
         Ok(()) => Ok(()),
-        Err(SchemaFault::OutOfMemory) => Err(ReadError::Memory),
+        Err(SchemaFault::OutOfMemory) => Err(ReadError::OutOfMemory),
         Err(_) => Err(ReadError::Invalid),
     }
 }

@@ -10,7 +10,7 @@ mod scanning;
 mod sections;
 mod splitting;
 
-pub use causes::OutOfMemory;
+pub use base_types::OutOfMemory;
 pub use fault::ScriptFault;
 pub use laws::{one_fault, one_script, script_or_fault};
 pub use sections::{Script, Section};

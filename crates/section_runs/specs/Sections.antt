@@ -1,7 +1,7 @@
 -- What the blocks of sections were answered with.
 use Rattle.std.specs.Prelude.{◌≡◌, ℕ, ◌<◌, ◌≤◌, List, [], ◌∷◌, length, drop, Option, None, IsSome, slice_get}
 use Rattle.std.specs.List.{AllByRecursion, flat_map}
-use Rattle.causes.specs.Causes.{one_more}
+use Rattle.base_types.specs.Causes.{one_more}
 use Rattle.row_types.specs.declared.block.Block.{Block}
 use Rattle.plain_model.specs.declared.reply.Reply.{Reply}
 use Rattle.plain_model.specs.Blocks.{Said}

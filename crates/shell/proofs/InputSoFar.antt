@@ -3,7 +3,7 @@ use Rattle.std.proofs.Common.{◌≡◌, ℕ, ◌+◌, ◌≤◌, List, [], ◌+
 use Rattle.std.proofs.lemmas.List.{length-take, length-drop, length-append, append_assoc, append-nil, drop-drop, take_all, drop_all, take_at, drop_at, take-append-drop}
 use Rattle.std.proofs.Math.Seq.{take-add}
 use Rattle.std.specs.Option.{option_map, ForSome}
-use Rattle.causes.specs.Causes.{one_more}
+use Rattle.base_types.specs.Causes.{one_more}
 use Rattle.io_edge.specs.Content.{Content, Gives, after_giving}
 use Rattle.io_edge.specs.Runs.{ReadsOn}
 use Rattle.io_edge.specs.declared.source.Source.{Ghosts}

@@ -10,7 +10,7 @@ use Rattle.shell.specs.Text.{fault_status, status_of, text_of}
 
 some_status : (fault : Fault) → fault_status fault ≡ 0 → ⊥
 some_status faults.Usage is = omega (arith, is)
-some_status faults.Memory is = omega (arith, is)
+some_status faults.OutOfMemory is = omega (arith, is)
 some_status (faults.Disk file) is = omega (arith, is)
 some_status faults.Source is = omega (arith, is)
 some_status (faults.Script at) is = omega (arith, is)

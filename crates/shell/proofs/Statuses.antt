@@ -4,7 +4,7 @@ use Rattle.std.proofs.lemmas.Bool.{cases_eq}
 use Rattle.std.proofs.lemmas.List.{append-nil}
 use Rattle.std.specs.List.{flat_map}
 use Rattle.std.specs.Option.{option_map, ForSome}
-use Rattle.causes.specs.Causes.{one_more}
+use Rattle.base_types.specs.Causes.{one_more}
 use Rattle.io_edge.specs.declared.source.Source as source
 use Rattle.io_edge.specs.declared.sink.Sink as sink
 use Rattle.disk_core.specs.declared.disk.Disk as disk
@@ -49,7 +49,7 @@ module _ {S D : Type 0} (s : source.Ghosts S) (d : disk.Ghosts D) (words : List 
   abbrev Says : Option Fault → Option (List SectionRun) → Type 0
   Says None shown = IsRun words × WasRead s old.source new.source × Finished shown
   Says (Some faults.Usage) shown = ¬ (IsRun words) × IsUntouched d old.disk new.disk
-  Says (Some faults.Memory) shown = IsRun words
+  Says (Some faults.OutOfMemory) shown = IsRun words
   Says (Some (faults.Disk file)) shown = IsRun words × WasRead s old.source new.source × (d.faults new.disk ≡ one_more (d.faults old.disk))
   Says (Some faults.Source) shown = IsRun words × FailsWithin s read_limit old.source new.source × IsUntouched d old.disk new.disk
   Says (Some (faults.Script at)) shown = IsRun words × WasRead s old.source new.source × GivesNoScript s old.source at × IsUntouched d old.disk new.disk
@@ -63,7 +63,7 @@ module _ {S D : Type 0} (s : source.Ghosts S) (d : disk.Ghosts D) (words : List 
 
   unread_says : (fault : Fault) (shown : Option (List SectionRun)) → IsRun words → new.disk ≡ old.disk → NoScript s fault old.source new.source → Says (Some fault) shown
   unread_says faults.Usage shown asks same why = absurd why
-  unread_says faults.Memory shown asks same why = asks
+  unread_says faults.OutOfMemory shown asks same why = asks
   unread_says (faults.Disk file) shown asks same why = absurd why
   unread_says faults.Source shown asks same why = (asks, why, untouched same)
   unread_says (faults.Script at) shown asks same why = (asks, why.0, why.1, untouched same)
@@ -81,7 +81,7 @@ module _ {S D : Type 0} (s : source.Ghosts S) (d : disk.Ghosts D) (words : List 
       defs = defs;
       at = at;
       reads = cannot.1;
-      untouched = record { same = cannot.2.only_reads.same; calls = cannot.2.calls };
+      untouched = record { same = cannot.2.only_reads.same; calls = cannot.2.only_reads.calls };
     },
   )
   opening_says defs opening.OutOfMemory shown asks read cannot = asks
@@ -126,7 +126,7 @@ module _ {S D : Type 0} (s : source.Ghosts S) (d : disk.Ghosts D) (words : List 
 
   unread_reads : (fault : Fault) → NoScript s fault old.source new.source → ReadsWithin s read_limit old.source new.source ⊎ (fault ≡ faults.Source)
   unread_reads faults.Usage why = absurd why
-  unread_reads faults.Memory why = inl why
+  unread_reads faults.OutOfMemory why = inl why
   unread_reads (faults.Disk file) why = absurd why
   unread_reads faults.Source why = inr refl
   unread_reads (faults.Script at) why = inl (whole_within s old.source new.source why.0)
@@ -170,7 +170,7 @@ module _ {S D : Type 0} (s : source.Ghosts S) (d : disk.Ghosts D) (words : List 
   says_usage : (fault : Option Fault) (shown : Option (List SectionRun)) → status_of fault ≡ 2 → Says fault shown → ¬ (IsRun words) × IsUntouched d old.disk new.disk
   says_usage None shown is says = absurd (omega (arith, is))
   says_usage (Some faults.Usage) shown is says = says
-  says_usage (Some faults.Memory) shown is says = absurd (omega (arith, is))
+  says_usage (Some faults.OutOfMemory) shown is says = absurd (omega (arith, is))
   says_usage (Some (faults.Disk file)) shown is says = absurd (omega (arith, is))
   says_usage (Some faults.Source) shown is says = absurd (omega (arith, is))
   says_usage (Some (faults.Script at)) shown is says = absurd (omega (arith, is))
@@ -182,7 +182,7 @@ module _ {S D : Type 0} (s : source.Ghosts S) (d : disk.Ghosts D) (words : List 
   says_disk : (fault : Option Fault) (shown : Option (List SectionRun)) → status_of fault ≡ 4 → Says fault shown → d.faults new.disk ≡ one_more (d.faults old.disk)
   says_disk None shown is says = absurd (omega (arith, is))
   says_disk (Some faults.Usage) shown is says = absurd (omega (arith, is))
-  says_disk (Some faults.Memory) shown is says = absurd (omega (arith, is))
+  says_disk (Some faults.OutOfMemory) shown is says = absurd (omega (arith, is))
   says_disk (Some (faults.Disk file)) shown is says = says.2
   says_disk (Some faults.Source) shown is says = absurd (omega (arith, is))
   says_disk (Some (faults.Script at)) shown is says = absurd (omega (arith, is))
@@ -194,7 +194,7 @@ module _ {S D : Type 0} (s : source.Ghosts S) (d : disk.Ghosts D) (words : List 
   says_source : (fault : Option Fault) (shown : Option (List SectionRun)) → status_of fault ≡ 5 → Says fault shown → FailsWithin s read_limit old.source new.source × IsUntouched d old.disk new.disk
   says_source None shown is says = absurd (omega (arith, is))
   says_source (Some faults.Usage) shown is says = absurd (omega (arith, is))
-  says_source (Some faults.Memory) shown is says = absurd (omega (arith, is))
+  says_source (Some faults.OutOfMemory) shown is says = absurd (omega (arith, is))
   says_source (Some (faults.Disk file)) shown is says = absurd (omega (arith, is))
   says_source (Some faults.Source) shown is says = (says.1, says.2)
   says_source (Some (faults.Script at)) shown is says = absurd (omega (arith, is))
@@ -206,7 +206,7 @@ module _ {S D : Type 0} (s : source.Ghosts S) (d : disk.Ghosts D) (words : List 
   says_script : (fault : Option Fault) (shown : Option (List SectionRun)) → status_of fault ≡ 7 → Says fault shown → (at : ℕ) × GivesNoScript s old.source at × IsUntouched d old.disk new.disk
   says_script None shown is says = absurd (omega (arith, is))
   says_script (Some faults.Usage) shown is says = absurd (omega (arith, is))
-  says_script (Some faults.Memory) shown is says = absurd (omega (arith, is))
+  says_script (Some faults.OutOfMemory) shown is says = absurd (omega (arith, is))
   says_script (Some (faults.Disk file)) shown is says = absurd (omega (arith, is))
   says_script (Some faults.Source) shown is says = absurd (omega (arith, is))
   says_script (Some (faults.Script at)) shown is says = (at, says.2, says.3)
@@ -218,7 +218,7 @@ module _ {S D : Type 0} (s : source.Ghosts S) (d : disk.Ghosts D) (words : List 
   says_damaged : (fault : Option Fault) (shown : Option (List SectionRun)) → status_of fault ≡ 8 → Says fault shown → StaysDamaged d old.disk new.disk
   says_damaged None shown is says = absurd (omega (arith, is))
   says_damaged (Some faults.Usage) shown is says = absurd (omega (arith, is))
-  says_damaged (Some faults.Memory) shown is says = absurd (omega (arith, is))
+  says_damaged (Some faults.OutOfMemory) shown is says = absurd (omega (arith, is))
   says_damaged (Some (faults.Disk file)) shown is says = absurd (omega (arith, is))
   says_damaged (Some faults.Source) shown is says = absurd (omega (arith, is))
   says_damaged (Some (faults.Script at)) shown is says = absurd (omega (arith, is))
@@ -232,7 +232,7 @@ module _ {S D : Type 0} (s : source.Ghosts S) (d : disk.Ghosts D) (words : List 
       → WasRead s old.source new.source ⊎ ((status_of fault ≡ 2) ⊎ ((status_of fault ≡ 3) ⊎ (status_of fault ≡ 5)))
   says_read None shown says = inl says.1
   says_read (Some faults.Usage) shown says = inr (inl refl)
-  says_read (Some faults.Memory) shown says = inr (inr (inl refl))
+  says_read (Some faults.OutOfMemory) shown says = inr (inr (inl refl))
   says_read (Some (faults.Disk file)) shown says = inl says.1
   says_read (Some faults.Source) shown says = inr (inr (inr refl))
   says_read (Some (faults.Script at)) shown says = inl says.1

@@ -43,7 +43,7 @@ module _ {S : Type 0} (s : source.Ghosts S) where
   -- No script was read: the source failed, memory ran out, or what was read is no script.
   abbrev pub NoScript : Fault → S → S → Type 0
   NoScript faults.Source old new = FailsWithin s read_limit old new
-  NoScript faults.Memory old new = ReadsWithin s read_limit old new
+  NoScript faults.OutOfMemory old new = ReadsWithin s read_limit old new
   NoScript (faults.Script at) old new = WasRead s old new × GivesNoScript old at
   NoScript other old new = ⊥
 

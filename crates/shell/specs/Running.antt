@@ -10,7 +10,7 @@ use Rattle.row_types.specs.Schema.{IsSchema}
 use Rattle.row_types.specs.Tables.{Tables}
 use Rattle.script.specs.declared.sections.Script.{Script}
 use Rattle.reply_text.specs.declared.last.Fault.{Fault}
-use Rattle.reply_text.specs.declared.last.Fault.TheVariants.{Disk, Memory, Damaged as DamagedFault}
+use Rattle.reply_text.specs.declared.last.Fault.TheVariants.{Disk, OutOfMemory as MemoryFault, Damaged as DamagedFault}
 use Rattle.reply_text.specs.declared.last.Place.TheVariants.{File}
 use Rattle.list_store.specs.declared.fault.OpenFault.{OpenFault}
 use Rattle.list_store.specs.declared.fault.OpenFault.TheVariants as opening
@@ -32,13 +32,13 @@ use Rattle.shell.specs.Ready.{AreReady}
 abbrev pub fault_opening : OpenFault → Fault
 fault_opening (opening.Disk file) = Disk file
 fault_opening (opening.Damaged file at) = DamagedFault (File file at)
-fault_opening opening.OutOfMemory = Memory
+fault_opening opening.OutOfMemory = MemoryFault
 
 -- the fault that a run ends with, by what stopped its sections; none where nothing did
 abbrev pub fault_halting : Halt → Option Fault
 fault_halting Done = None
 fault_halting Stopped = Some (Disk (even_file 0))
-fault_halting OutOfMemory = Some Memory
+fault_halting OutOfMemory = Some MemoryFault
 
 module _ {D : Type 0} (d : Ghosts D) where
   -- The blocks of the sections led over this trail from the tables that the file held: what a crash at any
@@ -84,7 +84,7 @@ module _ {D : Type 0} (d : Ghosts D) where
   -- these tables, and the file couldn't be opened as their log, or the sections were run over it.
   abbrev pub Runs : Script → D → OutcomeView → D → Type 0
   Runs script old view new =
-      ((view ≡ fault_alone Memory) × (new ≡ old))
+      ((view ≡ fault_alone MemoryFault) × (new ≡ old))
       ⊎ ((defs : List TableDef) × (sections : List ReadySection)
       × AreReady script.setup script.sessions defs sections
       × (IsUnopened defs old view new ⊎ WasRunOver defs sections old view new))

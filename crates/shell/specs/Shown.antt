@@ -1,7 +1,7 @@
 -- What a call shows of its outcome.
 use Rattle.std.specs.Prelude.{◌≡◌, ◌≢◌, ◌⊎◌, ℕ, List, [], ◌++◌, None}
 use Rattle.std.specs.Option.{option_map}
-use Rattle.causes.specs.Causes.{one_more}
+use Rattle.base_types.specs.Causes.{one_more}
 use Rattle.io_edge.specs.declared.sink.Sink.{Ghosts}
 use Rattle.shell.specs.Outcome.{OutcomeView}
 use Rattle.shell.specs.Text.{status_of, text_of}

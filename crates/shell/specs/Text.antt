@@ -41,7 +41,7 @@ text_of view = shown_text view.shown ++ fault_line view.fault
 -- the exit status of a fault
 abbrev pub fault_status : Fault → ℕ
 fault_status faults.Usage = 2
-fault_status faults.Memory = 3
+fault_status faults.OutOfMemory = 3
 fault_status (faults.Disk file) = 4
 fault_status faults.Source = 5
 fault_status (faults.Script at) = 7

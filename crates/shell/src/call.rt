@@ -1,5 +1,5 @@
 ghost use Rattle.std.specs.Prelude.{◌≡◌, ◌≢◌, ◌↔◌, ℕ, length, IfOk, IfErr, IsTrue};
-ghost use Rattle.causes.specs.Causes.{one_more};
+ghost use Rattle.base_types.specs.Causes.{one_more};
 ghost use Rattle.shell.specs.Call.{AllDone, Answers, Explains, IsRun, IsUntouched, LeavesFile};
 ghost use Rattle.shell.specs.Call.{GivesNoScript, GivesScript, NamesFolder, NoScript, StaysDamaged};
 ghost use Rattle.shell.specs.Files.{KeepsOthers, log_file, outside_in, outside_of};
@@ -136,11 +136,11 @@ fn read_script<S: Source>(alloc: Global, source: &mut S) -> Result<Script, Fault
     let input = match read_all(alloc, source) {
         Ok(input) => input,
         Err(InputFault::Source) => return Err(Fault::Source),
-        Err(InputFault::OutOfMemory) => return Err(Fault::Memory),
+        Err(InputFault::OutOfMemory) => return Err(Fault::OutOfMemory),
     };
     match split(alloc, &input) {
         Ok(script) => Ok(script),
         Err(ScriptFault::BadScript { at }) => Err(Fault::Script { at }),
-        Err(ScriptFault::OutOfMemory) => Err(Fault::Memory),
+        Err(ScriptFault::OutOfMemory) => Err(Fault::OutOfMemory),
     }
 }

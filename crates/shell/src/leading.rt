@@ -4,7 +4,7 @@ ghost use Rattle.row_types.specs.declared.block.Block.TheVariants.{Alone};
 ghost use Rattle.row_types.specs.Tables.{Tables, schema_of};
 ghost use Rattle.shell.specs.Leading.{AreLeading, IsDone, IsLead, created_by};
 
-use causes::OutOfMemory;
+use base_types::OutOfMemory;
 use plain_model::{Refusal, Reply};
 use row_types::{Block, Items, PlacedText, Schema, TableDef};
 use sql_parse::{ParseFault, Statement, one_answer, parse};

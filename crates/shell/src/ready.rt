@@ -3,7 +3,7 @@ ghost use Rattle.std.specs.Prelude.{◌≡◌, [], ◌++◌, IfOk, OnOk, Some};
 ghost use Rattle.shell.specs.Ready.{AreReady, numbered};
 
 use crate::leading::read_leading;
-use causes::OutOfMemory;
+use base_types::OutOfMemory;
 use row_types::{Items, Schema};
 use script::{Script, Section};
 use section_runs::ReadySection;

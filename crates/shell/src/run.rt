@@ -20,7 +20,7 @@ fn fault_opening(fault: OpenFault) -> Fault
     match fault {
         OpenFault::Disk { file } => Fault::Disk(file),
         OpenFault::Damaged { file, at } => Fault::Damaged(Place::File { file, at }),
-        OpenFault::OutOfMemory => Fault::Memory,
+        OpenFault::OutOfMemory => Fault::OutOfMemory,
     }
 }
 
@@ -34,7 +34,7 @@ fn fault_halting(halt: Halt) -> Option<Fault>
             lane: 0,
             odd: false,
         })),
-        Halt::OutOfMemory => Some(Fault::Memory),
+        Halt::OutOfMemory => Some(Fault::OutOfMemory),
     }
 }
 
@@ -68,10 +68,10 @@ pub(crate) fn run_script<D: Disk>(alloc: Global, script: Script, disk: D) -> (D,
     ensures { Runs D.Disk script disk (view_of result.1) result.0 }
 {
     let Ok((schema, sections)) = make_ready(alloc, script) else {
-        return (disk, Outcome::alone(Fault::Memory));
+        return (disk, Outcome::alone(Fault::OutOfMemory));
     };
     let Ok(room) = Vec::with_capacity(alloc, sections.len()) else {
-        return (disk, Outcome::alone(Fault::Memory));
+        return (disk, Outcome::alone(Fault::OutOfMemory));
     };
     run_ready(alloc, schema, sections, room, disk)
 }

@@ -11,7 +11,7 @@ fn fault_status(fault: Fault) -> u8
 {
     match fault {
         Fault::Usage => 2,
-        Fault::Memory => 3,
+        Fault::OutOfMemory => 3,
         Fault::Disk(_) => 4,
         Fault::Source => 5,
         Fault::Script { .. } => 7,

@@ -3,7 +3,7 @@ ghost use Rattle.std.specs.Prelude.{◌≡◌, ◌<◌, ◌≤◌, length, IfSom
 ghost use Rattle.row_types.specs.Schema.{column_named};
 ghost use Rattle.sql_check.specs.Columns.{column_number, kind_named, is_marked, is_key};
 
-use row_types::{Column, Kind, Name, TableDef};
+use row_types::{Column, Columns, Kind, Name, TableDef};
 
 /// The kind of the column with this name.
 pub(crate) fn kind_named(columns: &[Column], name: &Name) -> Option<Kind>
@@ -31,11 +31,10 @@ fn place_named(columns: &[Column], name: &Name) -> Option<usize>
 }
 
 /// The number, from 0, of the column with this name, and 0 where there is none.
-pub fn column_number(columns: &[Column], name: &Name) -> u8
-    requires { length columns.now ≤ 32 }
+pub fn column_number(columns: &Columns, name: &Name) -> u8
     ensures { result ≡ column_number columns.now name.now }
 {
-    match place_named(columns, name) {
+    match place_named(columns.as_slice(), name) {
         Some(place) => place as u8,
         None => 0,
     }

@@ -11,7 +11,7 @@ mod plan;
 mod planning;
 mod range;
 
-pub use causes::OutOfMemory;
+pub use base_types::OutOfMemory;
 pub use checking::{check, misfit, table_number};
 pub use columns::column_number;
 pub use fault::CheckFault;

@@ -13,15 +13,14 @@ use crate::plan::{
     TotalPlan, TotalsPlan, UpdatePlan,
 };
 use crate::range::{range_of, range_of_rows};
-use row_types::{Column, Items, Kind, Name, TableDef, Text, Value};
+use row_types::{Columns, Items, Kind, Name, TableDef, Text, Value};
 use sql_parse::{
     Change, Condition, Delete, Insert, Order, Select, Shown, Statement, Step, Term, Total, Totals,
     Update,
 };
 use std::alloc::Global;
 
-fn test_of(columns: &[Column], condition: Condition) -> Test
-    requires { length columns.now ≤ 32 }
+fn test_of(columns: &Columns, condition: Condition) -> Test
     ensures { result ≡ test_of columns.now condition }
 {
     let Condition {
@@ -46,10 +45,9 @@ fn test_of(columns: &[Column], condition: Condition) -> Test
 
 fn tests_of(
     alloc: Global,
-    columns: &[Column],
+    columns: &Columns,
     conditions: Items<Condition>,
 ) -> Result<Items<Test>, OutOfMemory>
-    requires { length columns.now ≤ 32 }
     ensures { IfOk result (λ tests. tests ≡ map (test_of columns.now) conditions) }
 {
     let tests = conditions
@@ -71,12 +69,7 @@ fn all_columns(alloc: Global, count: usize) -> Result<Items<u8>, OutOfMemory>
     Ok(Items::from_vec(columns))
 }
 
-fn named_columns(
-    alloc: Global,
-    columns: &[Column],
-    names: &[Name],
-) -> Result<Items<u8>, OutOfMemory>
-    requires { length columns.now ≤ 32 }
+fn named_columns(alloc: Global, columns: &Columns, names: &[Name]) -> Result<Items<u8>, OutOfMemory>
     ensures { IfOk result (λ numbers. numbers ≡ map (column_number columns.now) names.now) }
 {
     let mut numbers = Vec::with_capacity(alloc, names.len())?;
@@ -86,12 +79,11 @@ fn named_columns(
     Ok(Items::from_vec(numbers))
 }
 
-fn columns_shown(alloc: Global, columns: &[Column], shown: &Shown) -> Result<Items<u8>, OutOfMemory>
-    requires { length columns.now ≤ 32 }
+fn columns_shown(alloc: Global, columns: &Columns, shown: &Shown) -> Result<Items<u8>, OutOfMemory>
     ensures { IfOk result (λ numbers. numbers ≡ columns_shown columns.now shown.now) }
 {
     match shown {
-        Shown::All => all_columns(alloc, columns.len()),
+        Shown::All => all_columns(alloc, columns.as_slice().len()),
         Shown::Columns(names) => named_columns(alloc, columns, names.as_slice()),
     }
 }
@@ -105,8 +97,7 @@ fn falls(order: &Option<Order>) -> bool
     }
 }
 
-fn total_plan(columns: &[Column], total: &Total) -> TotalPlan
-    requires { length columns.now ≤ 32 }
+fn total_plan(columns: &Columns, total: &Total) -> TotalPlan
     ensures { result ≡ total_plan columns.now total.now }
 {
     match total {
@@ -117,10 +108,9 @@ fn total_plan(columns: &[Column], total: &Total) -> TotalPlan
 
 fn total_plans(
     alloc: Global,
-    columns: &[Column],
+    columns: &Columns,
     totals: &[Total],
 ) -> Result<Items<TotalPlan>, OutOfMemory>
-    requires { length columns.now ≤ 32 }
     ensures { IfOk result (λ plans. plans ≡ map (total_plan columns.now) totals.now) }
 {
     let mut plans = Vec::with_capacity(alloc, totals.len())?;
@@ -130,8 +120,7 @@ fn total_plans(
     Ok(Items::from_vec(plans))
 }
 
-fn int_term(columns: &[Column], term: &Term) -> IntTerm
-    requires { length columns.now ≤ 32 }
+fn int_term(columns: &Columns, term: &Term) -> IntTerm
     ensures { result ≡ int_term columns.now term.now }
 {
     match term {
@@ -141,8 +130,7 @@ fn int_term(columns: &[Column], term: &Term) -> IntTerm
     }
 }
 
-fn int_step(columns: &[Column], step: &Step) -> IntStep
-    requires { length columns.now ≤ 32 }
+fn int_step(columns: &Columns, step: &Step) -> IntStep
     ensures { result ≡ int_step columns.now step.now }
 {
     IntStep {
@@ -153,10 +141,9 @@ fn int_step(columns: &[Column], step: &Step) -> IntStep
 
 fn int_steps(
     alloc: Global,
-    columns: &[Column],
+    columns: &Columns,
     steps: &[Step],
 ) -> Result<Items<IntStep>, OutOfMemory>
-    requires { length columns.now ≤ 32 }
     ensures { IfOk result (λ plans. plans ≡ map (int_step columns.now) steps.now) }
 {
     let mut plans = Vec::with_capacity(alloc, steps.len())?;
@@ -166,8 +153,7 @@ fn int_steps(
     Ok(Items::from_vec(plans))
 }
 
-fn text_term(alloc: Global, columns: &[Column], term: Term) -> Result<TextTerm, OutOfMemory>
-    requires { length columns.now ≤ 32 }
+fn text_term(alloc: Global, columns: &Columns, term: Term) -> Result<TextTerm, OutOfMemory>
     ensures { IfOk result (λ plan. plan ≡ text_term columns.now term) }
 {
     match term {
@@ -179,10 +165,9 @@ fn text_term(alloc: Global, columns: &[Column], term: Term) -> Result<TextTerm, 
 
 fn assignment_of(
     alloc: Global,
-    columns: &[Column],
+    columns: &Columns,
     change: Change,
 ) -> Result<Assignment, OutOfMemory>
-    requires { length columns.now ≤ 32 }
     ensures { IfOk result (λ plan. plan ≡ assignment_of columns.now change) }
 {
     let Change {
@@ -191,7 +176,7 @@ fn assignment_of(
         further,
     } = change;
     let column = column_number(columns, &name);
-    match kind_named(columns, &name) {
+    match kind_named(columns.as_slice(), &name) {
         Some(Kind::Text(_)) => Ok(Assignment::Text {
             column,
             text: text_term(alloc, columns, first)?,
@@ -206,10 +191,9 @@ fn assignment_of(
 
 fn assignments_of(
     alloc: Global,
-    columns: &[Column],
+    columns: &Columns,
     changes: Items<Change>,
 ) -> Result<Items<Assignment>, OutOfMemory>
-    requires { length columns.now ≤ 32 }
     ensures { IfOk result (λ plans. plans ≡ map (assignment_of columns.now) changes) }
 {
     let mut plans = Vec::with_capacity(alloc, changes.len())?;
@@ -228,7 +212,7 @@ fn select_plan(
     requires { length def.now.columns ≤ 32 }
     ensures { IfOk result (λ plan. Plan.Select plan ≡ plan_on table def.now (Statement.Select s)) }
 {
-    let columns = def.columns.as_slice();
+    let columns = &Columns::new(def.columns.as_slice());
     Ok(SelectPlan {
         table,
         range: range_of(def, s.conditions.as_slice()),
@@ -248,7 +232,7 @@ fn totals_plan(
     requires { length def.now.columns ≤ 32 }
     ensures { IfOk result (λ plan. Plan.Totals plan ≡ plan_on table def.now (Statement.Totals s)) }
 {
-    let columns = def.columns.as_slice();
+    let columns = &Columns::new(def.columns.as_slice());
     Ok(TotalsPlan {
         table,
         range: range_of(def, s.conditions.as_slice()),
@@ -266,7 +250,7 @@ fn update_plan(
     requires { length def.now.columns ≤ 32 }
     ensures { IfOk result (λ plan. Plan.Update plan ≡ plan_on table def.now (Statement.Update s)) }
 {
-    let columns = def.columns.as_slice();
+    let columns = &Columns::new(def.columns.as_slice());
     Ok(UpdatePlan {
         table,
         range: range_of(def, s.conditions.as_slice()),
@@ -284,10 +268,11 @@ fn delete_plan(
     requires { length def.now.columns ≤ 32 }
     ensures { IfOk result (λ plan. Plan.Delete plan ≡ plan_on table def.now (Statement.Delete s)) }
 {
+    let columns = &Columns::new(def.columns.as_slice());
     Ok(DeletePlan {
         table,
         range: range_of(def, s.conditions.as_slice()),
-        conditions: tests_of(alloc, def.columns.as_slice(), s.conditions)?,
+        conditions: tests_of(alloc, columns, s.conditions)?,
     })
 }
 

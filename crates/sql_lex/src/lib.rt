@@ -10,7 +10,7 @@ mod shapes;
 mod sole;
 mod token;
 
-pub use causes::OutOfMemory;
+pub use base_types::OutOfMemory;
 pub use keyword::Keyword;
 pub use laws::{each_text_has_tokens, one_end, one_token_list};
 pub use lexing::{LexFault, lex};

@@ -14,7 +14,7 @@ mod selects;
 mod statement;
 mod values;
 
-pub use causes::OutOfMemory;
+pub use base_types::OutOfMemory;
 pub use fault::ParseFault;
 pub use laws::{literal_text, one_answer, one_statement};
 pub use parsing::parse;

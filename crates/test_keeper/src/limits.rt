@@ -6,7 +6,7 @@ ghost use Rattle.call_log.specs.History.{log_bytes, log_limit, log_room};
 
 use crate::tries::{is_idle, tried};
 use engine_txn::BlockCalls;
-use exec_keeper::{block, schema};
+use fake_keeper::{block, schema};
 use list_keeper::ListKeeper;
 use op_log::read_body;
 use plain_model::RowCalls;

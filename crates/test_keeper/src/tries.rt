@@ -3,7 +3,7 @@ ghost use Rattle.std.specs.Prelude.{◌≡◌, false, IsTrue};
 ghost use Rattle.plain_model.specs.Calls.{is_running};
 
 use engine_txn::{BlockCalls, Tried, try_block};
-use exec_keeper::{block, schema};
+use fake_keeper::{block, schema};
 use io_edge::MemSink;
 use list_keeper::ListKeeper;
 use plain_model::{Reply, Tables, run_plain};

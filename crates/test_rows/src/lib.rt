@@ -1,8 +1,14 @@
-//! Tables of rows for values, slots, schemas, keys and locks:
-//! an input of a public call, and what has to come of it.
+//! Tables of rows for values, slots, schemas, keys and locks, and for the blocks, fields, records and pages that keep
+//! them: an input of a public call, and what has to come of it.
 #![tactic(auto)]
 
 #[cfg(test)]
+mod blocks;
+#[cfg(test)]
 mod keys;
+#[cfg(test)]
+mod pages;
+#[cfg(test)]
+mod records;
 #[cfg(test)]
 mod rows;

@@ -1,7 +1,7 @@
 // What no clause says: that a log file is opened with ample memory, or found damaged, whatever its bytes.
 use crate::program::disk;
 use disk_core::MemDisk;
-use exec_keeper::schema;
+use fake_keeper::schema;
 use list_store::ListStore;
 use std::alloc::{AllocError, Global};
 use std::test::Fail;
@@ -122,7 +122,7 @@ fn a_file_with_another_head_is_damaged_there(rt: HostRuntime) -> Result<(), Fail
 fn a_read_that_fails_names_the_file(rt: HostRuntime) -> Result<(), Fail> {
     let alloc = rt.alloc();
     let bytes = log_of(alloc, &[PUT, BOTH], b"\0")?;
-    for call in 1..7 {
+    for call in 1..8 {
         let disk = disk(alloc, &bytes, 4000)?.failing(Vec::new(alloc), vec![in alloc; call]?);
         let wants = if call < 7 {
             "lane0.even failed"

@@ -7,5 +7,5 @@ mod load;
 mod rows;
 mod undo;
 
-pub use causes::OutOfMemory;
+pub use base_types::OutOfMemory;
 pub use rows::TxnRows;

@@ -24,7 +24,6 @@ loop-batches-preserved g c =
     let items : c.push.new.self.items ≡ c.loop-batches.batches.items ++ batch ∷ [] = grind (arith, common_steps) in
     record {
       only_reads = read_on D old mid new so_far.only_reads c.read_batch.ensures.only_reads;
-      calls = c.read_batch.ensures.calls ∙ so_far.calls;
       still = c.in_ok-read_batch.ensures.cause ∙ so_far.still;
       inside = omega (arith, size, place.1);
       window = subst (λ content. IsWindow content c.read_batch.new.window) (sym c.read_batch.ensures.only_reads.same) c.in_ok-read_batch.ensures.window;

@@ -8,7 +8,6 @@ use Rattle.lane_format.proofs.read.read_batches.Given as goal
 abbrev pub invariant-loop-batches : goal.invariant-loop-batches
 invariant-loop-batches g l = record {
   only_reads : OnlyReads g.D.Disk l.fn.disk l.disk;
-  calls : g.D.Disk.calls l.disk ≡ g.D.Disk.calls l.fn.disk;
   still : g.D.Disk.faults l.disk ≡ g.D.Disk.faults l.fn.disk;
   inside : l.gate ≤ l.size;
   window : IsWindow (g.D.Disk.content l.disk) l.window;

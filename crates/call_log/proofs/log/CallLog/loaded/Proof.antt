@@ -27,7 +27,7 @@ use denote.Triple.Table.{entered}
 use denote.Triple.Walked.{says, Stays, stay_dropped, walk_of, ends_at, walk_Meets, Goes-dropped}
 use Rattle.call_log.proofs.Walks.{none, none_made}
 use Rattle.call_log.specs.contracts.log.CallLog as Log
-use Rattle.plain_items.specs.contracts.items.Items as Items
+use Rattle.base_types.specs.contracts.items.Items as Items
 use Rattle.op_log.specs.contracts.change.RowChange as RowChange
 use Rattle.call_log.specs.History.{with_loaded}
 use Rattle.call_log.specs.contracts.log.CallLog.loaded as F

@@ -1,0 +1,6 @@
+-- the copies so far are the front
+use Rattle.std.proofs.Common.{◌≡◌, take}
+use Rattle.base_types.proofs.items.ItemsTryCopy.copy.Given as goal
+
+abbrev pub invariant-loop-item : goal.invariant-loop-item
+invariant-loop-item g l = l.items.items ≡ take l.item-index l.item-items

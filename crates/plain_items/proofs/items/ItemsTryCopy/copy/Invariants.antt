@@ -1,6 +1,0 @@
--- the copies so far are the front
-use Rattle.std.proofs.Common.{◌≡◌, take}
-use Rattle.plain_items.proofs.items.ItemsTryCopy.copy.Given as goal
-
-abbrev pub invariant-loop-item : goal.invariant-loop-item
-invariant-loop-item g l = l.items.items ≡ take l.item-index l.item-items
