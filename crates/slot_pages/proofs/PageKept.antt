@@ -1,6 +1,6 @@
 -- What keeps a page in its pool.
 use Rattle.std.proofs.Common.{◌≡◌, ◌≢◌, ◌⊎◌, inl, inr, ℕ, ◌+◌, ◌-◌, ◌*◌, ◌<◌, ◌≤◌, Bool, true, false, cond}
-use Rattle.std.proofs.Common.{List, [], ◌∷◌, zero, suc, length, get_or, set, bit_xor, None, Some, slice_get}
+use Rattle.std.proofs.Common.{List, [], ◌∷◌, zero, suc, length, get_or, set, bit_xor, Option, None, Some, slice_get}
 use Rattle.std.proofs.Common.{refl, sym, ap, ap₂, ◌∙◌, subst, arith}
 use Rattle.std.specs.Int.Bits.{xor_zero_r}
 use Rattle.std.proofs.lemmas.Bool.{cases_lt, cases_eq, lt-leb, le-leb}
@@ -161,3 +161,25 @@ pub taken_written : (before after : Blocks) (block : ℕ) (new bytes : List ℕ)
     → set after block (Some new) ≡ set before block (Some bytes)
 taken_written before after block new bytes is new-is =
     ap₂ (λ p s. set p block (Some s)) is new-is ∙ set_again before block (Some zeros) (Some bytes)
+
+-- ---- Another block
+
+-- the entry of another block
+entry_beside : (pool : Blocks) (k other : ℕ) (entry : Option (List ℕ)) → other ≢ k → slice_get (set pool other entry) k ≡ slice_get pool k
+entry_beside [] k other entry n = refl
+entry_beside (e ∷ pool) zero zero entry n = absurd (n refl)
+entry_beside (e ∷ pool) (suc k) zero entry n = refl
+entry_beside (e ∷ pool) zero (suc other) entry n = refl
+entry_beside (e ∷ pool) (suc k) (suc other) entry n = entry_beside pool k other entry (λ p. n (ap suc p))
+
+pub bytes_beside : (pool : Blocks) (page : PageState) (other : ℕ) (entry : Option (List ℕ))
+    → other ≢ page.block → bytes_in (set pool other entry) page ≡ bytes_in pool page
+bytes_beside pool page other entry n = ap bytes_of_entry (entry_beside pool page.block other entry n)
+
+pub page_beside : (pool : Blocks) (page : PageState) (other : ℕ) (entry : Option (List ℕ))
+    → other ≢ page.block → IsPage pool page → IsPage (set pool other entry) page
+page_beside pool page other entry n p =
+    is_page (set pool other entry) page (bytes_in pool page) (entry_beside pool page.block other entry n ∙ p.out) p.whole p.marks p.taken
+
+pub free_is_no_pages : (pool : Blocks) (page : PageState) (block : ℕ) → IsFree pool block → IsPage pool page → block ≢ page.block
+free_is_no_pages pool page block free p same = cc (sym free ∙ ap (slice_get pool) same ∙ p.out)

@@ -8,5 +8,8 @@ mod laws;
 mod page;
 
 pub use block_pool::{Pool, PoolFull};
-pub use laws::a_page_toggled_twice_is_as_before;
+pub use laws::{
+    a_free_block_is_no_pages, a_page_stays_while_another_block_changes,
+    a_page_toggled_twice_is_as_before,
+};
 pub use page::{BadPage, Page};

@@ -158,14 +158,6 @@ impl Page {
         self.stamp
     }
 
-    /// Whether slot `n` is held.
-    pub fn is_held(&self, n: u16) -> bool
-        requires { n < 256 }
-        ensures { result ≡ get_or self.now.held n false }
-    {
-        self.held[n as usize]
-    }
-
     /// Its bytes.
     pub fn bytes<'a>(&self, pool: &'a Pool) -> &'a [u8]
         requires { IsPage pool.now self.now }

@@ -148,3 +148,23 @@ pub flipped_step : {X : Type 0} (at : X → ℕ → ℕ) (start now next : List 
 flipped_step at start now next xs x e f q =
     let bytes : All (λ x. x < 2 ^ 8) next = All-from_get_or (λ x. x < 2 ^ 8) next 0 (λ i l. (q i).fits) in
     f ∙ sym (flipped_none at (toggled at now x) (subst (All (λ x. x < 2 ^ 8)) f bytes)) ∙ flipped_cons at now x [] ∙ ap (λ s. flipped at s (x ∷ [])) e ∙ flipped_append at start xs (x ∷ [])
+
+-- all items after all others: an item's bits are those that one of the two has set
+flips_both : {X : Type 0} (at bt ct : X → ℕ → ℕ) (i b : ℕ) → ((x : X) → ct x i ≡ bit_xor (at x i) (bt x i)) → (xs : List X) → flips ct xs i b % 2 ≡ (flips at xs i b + flips bt xs i b) % 2
+flips_both at bt ct i b h [] = refl
+flips_both at bt ct i b h (x ∷ xs) =
+    ap (λ c. c % 2) (flips_cons ct x xs i b ∙ ap (λ y. y + flips ct xs i b) (ap (λ y. bit_at y b) (h x) ∙ bit_at_xor (at x i) (bt x i) b))
+    ∙ apart (bit_at (at x i) b) (bit_at (bt x i) b) (flips at xs i b) (flips bt xs i b) (flips ct xs i b) (flips_both at bt ct i b h xs)
+    ∙ ap₂ (λ c d. (c + d) % 2) (sym (flips_cons at x xs i b)) (sym (flips_cons bt x xs i b))
+  where
+    apart : (p q c d e : ℕ) → e % 2 ≡ (c + d) % 2 → ((p + q) % 2 + e) % 2 ≡ (p + c + (q + d)) % 2
+    apart p q c d e r = omega (arith, r)
+
+pub flipped_both : {X : Type 0} (at bt ct : X → ℕ → ℕ) (start : List ℕ) (xs : List X) → ((x : X) (i : ℕ) → ct x i ≡ bit_xor (at x i) (bt x i))
+    → flipped bt (flipped at start xs) xs ≡ flipped ct start xs
+flipped_both at bt ct start xs h = flipped_same bt ct (flipped at start xs) start xs xs (length-flipped at start xs) (λ i b l m.
+    ap (λ s. (s + flips bt xs i b) % 2) (flipped_bit at start xs i b (subst (λ n. i < n) (length-flipped at start xs) l) m)
+    ∙ onto _ _ _ _ (flips_both at bt ct i b (λ x. h x i) xs))
+  where
+    onto : (s c d e : ℕ) → e % 2 ≡ (c + d) % 2 → ((s + c) % 2 + d) % 2 ≡ (s + e) % 2
+    onto s c d e r = omega (arith, r)

@@ -5,6 +5,7 @@ use Rattle.std.specs.Int.{w16, w32, w64, to_le_bytes, from_le_bytes}
 use Rattle.std.proofs.lemmas.Bool.{cases_lt, le-ltb, lt-ltb, ltb-false, eqb-false, ne_eqb, false≢true}
 use Rattle.std.proofs.lemmas.List.{append_assoc, length-append, take_at, take-append-drop, take-take, drop-take, get_or-take, get_or-drop, get_or_past}
 use Rattle.std.proofs.lemmas.Nat.{le_bytes_2, le_bytes_4, le_bytes_8, from_le_bytes-to_le_bytes_2, from_le_bytes-to_le_bytes_4, from_le_bytes-to_le_bytes_8}
+use Rattle.std.proofs.lemmas.List.Elements.{All-from_get_or}
 use Rattle.std.proofs.lemmas.Grind.{common_steps}
 use Rattle.fields.specs.Fields.{bytes_at}
 use Rattle.xor_records.specs.declared.record.Head.{Head}
@@ -174,6 +175,7 @@ diff_sound bytes h e d =
           offset = below_2 23 bytes h (omega (arith, len.0));
         },
         record {
+          bytes = All-from_get_or (λ x. x < 2 ^ 8) (xor_at bytes) 0 (λ i l. field_bytes 27 (length_at bytes) bytes h i);
           some = subst (λ n. 1 ≤ n) (sym long) (at_least_one (length_at bytes) bounds.0);
           inside = subst (λ n. offset_at bytes + n ≤ 4096) (sym long) (ltb-false 4096 (offset_at bytes + length_at bytes) bounds.1);
           first = eqb-false (get_or (xor_at bytes) 0 0) 0 ends.0;

@@ -1,12 +1,13 @@
 -- What holds of the pages that images and records stand for.
-use Rattle.std.specs.Prelude.{ℕ, Bool, true, false, List, ◌∷◌, ◌≡◌, ◌<◌, ◌≤◌, ◌+◌, ◌%◌, ◌^◌, map, length}
-use Rattle.std.specs.Prelude.{get_or, count_by, replicate, All, IsPermutation}
+use Rattle.std.specs.Prelude.{ℕ, Bool, true, false, cond, List, ◌∷◌, ◌≡◌, ◌<◌, ◌≤◌, ◌+◌, ◌%◌, ◌^◌, ◌&&◌, ◌==◌}
+use Rattle.std.specs.Prelude.{map, length, get_or, count_by, nat_le, nat_lt, replicate, All, IsPermutation}
 use Rattle.std.specs.Int.{bit_at}
 use Rattle.fields.specs.Toggle.{byte_at, byte_from, toggled}
 use Rattle.xor_records.specs.declared.record.Head.{Head}
-use Rattle.xor_records.specs.Record.{Record, Diff}
+use Rattle.xor_records.specs.Record.{Record, Diff, Commit, End}
 use Rattle.xor_records.specs.Parity.{is_set, joined, flipped}
-use Rattle.xor_records.specs.Replay.{PageName, PageImage, ended, stamp_of, bytes_of, owed_byte, restarted}
+use Rattle.xor_records.specs.Replay.{PageName, PageImage, ends, ended, stamp_of, bytes_of, is_of, owed_byte}
+use Rattle.xor_records.specs.Replay.{restarted}
 
 -- the page that a change is of
 abbrev pub page_of : Head → PageName
@@ -85,3 +86,44 @@ abbrev pub OpenIsTakenBack : Type 0
 OpenIsTakenBack =
     (images : List PageImage) (records : List Record) (head : Head) (xor : List ℕ) → All (λ x. x < 2 ^ 8) xor
     → IsAtMost images head → ended records head.txn ≡ false → Toggles images records head xor
+
+-- ---- A transaction ends
+
+-- the byte that a change by this transaction has at a place of this page, else 0
+abbrev pub byte_by : ℕ → PageName → Record → ℕ → ℕ
+byte_by txn name (Diff head xor) i = cond (is_of name head && (txn == head.txn)) (byte_from head.offset xor i) 0
+byte_by txn name (Commit other) i = 0
+byte_by txn name (End other) i = 0
+
+-- The first record that says that a transaction committed or ended toggles all its
+-- changes: those above their page's stamp come, and the others are no longer taken back.
+abbrev pub EndToggles : Type 0
+EndToggles =
+    (images : List PageImage) (records : List Record) (txn : ℕ) (end : Record) (name : PageName)
+    → ends txn end ≡ true → ended records txn ≡ false
+    → restarted images (end ∷ records) name
+    ≡ flipped (byte_by txn name) (restarted images records name) records
+
+abbrev pub AnotherEndLeaves : Type 0
+AnotherEndLeaves = (images : List PageImage) (records : List Record) (txn : ℕ) (end : Record)
+    → ends txn end ≡ true → ended records txn ≡ true → Leaves images records end
+
+-- ---- An image's stamp rises
+
+-- the byte that a change of this page has at a place, where its stamp is above the first and at most the second
+abbrev pub byte_between : ℕ → ℕ → PageName → Record → ℕ → ℕ
+byte_between below upto name (Diff head xor) i =
+    cond (is_of name head && nat_lt below head.stamp && nat_le head.stamp upto) (byte_from head.offset xor i) 0
+byte_between below upto name (Commit txn) i = 0
+byte_between below upto name (End txn) i = 0
+
+-- the page has a later image, of which the bytes have the changes up to its stamp too
+pub record Rises (images later : List PageImage) (records : List Record) (name : PageName) : Type 0 where
+  pub stamp : stamp_of images name ≤ stamp_of later name
+  pub bytes : bytes_of later name
+      ≡ flipped (byte_between (stamp_of images name) (stamp_of later name) name) (bytes_of images name) records
+
+abbrev pub LaterImageIsSame : Type 0
+LaterImageIsSame =
+    (images later : List PageImage) (records : List Record) (name : PageName)
+    → Rises images later records name → restarted later records name ≡ restarted images records name

@@ -1,5 +1,6 @@
 -- Records of changes, and how each is spelled.
-use Rattle.std.specs.Prelude.{◌≢◌, ℕ, ◌+◌, ◌-◌, ◌^◌, ◌<◌, ◌≤◌, List, ◌∷◌, ◌++◌, length, slice_index}
+use Rattle.std.specs.Prelude.{◌≢◌, ℕ, ◌+◌, ◌-◌, ◌^◌, ◌<◌, ◌≤◌, List, ◌∷◌, ◌++◌, All, length}
+use Rattle.std.specs.Prelude.{slice_index}
 use Rattle.std.specs.Int.{w16, w32, w64, to_le_bytes}
 use Rattle.xor_records.specs.declared.record.Head.{Head}
 
@@ -36,6 +37,7 @@ pub record IsHead (head : Head) : Type 0 where
 
 -- 1 to 4,096 bytes from the offset on lie within a page, and the first and the last of them change something
 pub record IsXor (offset : ℕ) (xor : List ℕ) : Type 0 where
+  pub bytes : All (λ x. x < 2 ^ 8) xor
   pub some : 1 ≤ length xor
   pub inside : offset + length xor ≤ 4096
   pub first : slice_index xor 0 ≢ 0

@@ -61,11 +61,4 @@ impl Image {
     {
         self.bytes.as_slice()
     }
-
-    /// Its bytes, which end the image.
-    pub fn into_bytes(self) -> Vec<u8>
-        ensures { result.items ≡ self.bytes }
-    {
-        self.bytes
-    }
 }

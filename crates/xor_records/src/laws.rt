@@ -1,7 +1,8 @@
 // What holds of the pages that images and records stand for, each law the contract of a function that does
 // nothing.
 ghost use Rattle.xor_records.specs.Laws.{EachBitHasItsParity, NoOrder, AnyParts, EndedToggles, Compensated};
-ghost use Rattle.xor_records.specs.Laws.{OpenIsNotThere, AtMostTheStamp, OpenIsTakenBack};
+ghost use Rattle.xor_records.specs.Laws.{OpenIsNotThere, AtMostTheStamp, OpenIsTakenBack, EndToggles};
+ghost use Rattle.xor_records.specs.Laws.{AnotherEndLeaves, LaterImageIsSame};
 
 /// A bit is the image's where an even number of the page's owed records has it set, and the opposite where
 /// an odd number has.
@@ -44,4 +45,20 @@ pub fn a_change_at_most_the_stamp_is_there()
 /// A change at or below its page's stamp, of a transaction that hasn't ended, is taken back.
 pub fn a_change_of_an_open_transaction_is_taken_back()
     ensures { OpenIsTakenBack }
+{}
+
+/// The first record that says that a transaction committed or ended toggles all its changes: those above
+/// their page's stamp come, and the others are no longer taken back.
+pub fn an_end_toggles_its_transaction()
+    ensures { EndToggles }
+{}
+
+/// Another record that says so leaves all pages.
+pub fn another_end_leaves()
+    ensures { AnotherEndLeaves }
+{}
+
+/// A page is the same by a later image, whose bytes have the changes up to the later stamp too.
+pub fn a_later_image_gives_the_same_page()
+    ensures { LaterImageIsSame }
 {}

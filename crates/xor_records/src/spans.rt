@@ -1,5 +1,6 @@
 // The change that turns bytes into others.
-ghost use Rattle.std.specs.Prelude.{◌≡◌, ◌≢◌, ◌↔◌, ◌-◌, IsNone, IfSome, length, slice_index};
+ghost use Rattle.std.specs.Prelude.{◌≡◌, ◌≢◌, ◌↔◌, ◌-◌, ◌^◌, ◌<◌, All, IsNone, IfSome, length};
+ghost use Rattle.std.specs.Prelude.{slice_index};
 ghost use Rattle.fields.specs.Fields.{bytes_at};
 ghost use Rattle.fields.specs.Toggle.{byte_at, byte_from, toggled};
 ghost use Rattle.fields.specs.Differ.{IsDiffSpan};
@@ -30,6 +31,7 @@ pub fn diff_bytes(before: &[u8], after: &[u8], diff: &Diff, into: &mut [u8])
     requires whole { length into.old ≡ diff.now.length }
     ensures bytes { into.new ≡ toggled byte_at (bytes_at diff.now.offset diff.now.length before.now)
         (bytes_at diff.now.offset diff.now.length after.now) }
+    ensures fits { All (λ x. x < 2 ^ 8) into.new }
     ensures turns { toggled (byte_from diff.now.offset) before.now into.new ≡ after.now }
     ensures first { slice_index into.new 0 ≢ 0 }
     ensures last { slice_index into.new (length into.new - 1) ≢ 0 }
