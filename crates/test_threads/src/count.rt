@@ -7,9 +7,9 @@ ghost use Rattle.turnstile.specs.Passes.{IsPass, IsInside, Has, SameButEntries, 
 
 use std::marker::Brand;
 use std::sync::Wait;
-use std::thread;
 use std::thread::{Threads, join};
 use std::time::{Clock, Duration};
+use std::{hint, thread};
 use turnstile::{Adds, Pass, Told, Turn, Turnstile};
 
 /// How many entries there are. Which ones isn't kept.
@@ -54,8 +54,21 @@ pub fn count_one(n: &mut u64) -> bool
     }
 }
 
-/// One turn, which counts itself.
-pub fn count_turn<R: Wait>(rt: &R, room: &Turnstile<Count>, pass: &mut Pass<Count>) -> bool
+// Lets the processor pause so many times.
+#[inline]
+fn pause(pauses: u32) {
+    for _ in 0..pauses {
+        hint::spin_loop();
+    }
+}
+
+/// One turn, which counts itself and takes as long as so many pauses of the processor.
+pub fn count_turn<R: Wait>(
+    rt: &R,
+    room: &Turnstile<Count>,
+    pass: &mut Pass<Count>,
+    pauses: u32,
+) -> bool
     requires pass { IsPass (name_of room.now) pass.old }
     requires left { 0 < left pass.old }
     ensures pass { IsPass (name_of room.now) pass.new }
@@ -65,8 +78,21 @@ pub fn count_turn<R: Wait>(rt: &R, room: &Turnstile<Count>, pass: &mut Pass<Coun
 {
     let mut turn = room.enter(rt, pass);
     let done = count_one(&mut turn.value().turns);
+    pause(pauses);
     leave_counted::<Brand>(turn, done);
     done
+}
+
+/// So many turns, each of which counts itself. The pass has more turns than that left.
+pub fn count_turns<R: Wait>(rt: &R, room: &Turnstile<Count>, pass: &mut Pass<Count>, turns: u64)
+    requires pass { IsPass (name_of room.now) pass.old }
+    requires left { turns < left pass.old }
+    ensures pass { IsPass (name_of room.now) pass.new }
+    ensures left { left pass.new + turns ≡ left pass.old }
+{
+    for _ in 0..turns {
+        count_turn(rt, room, pass, 0);
+    }
 }
 
 /// One turn, which adds nothing: how many were counted so far.
@@ -108,7 +134,7 @@ fn late_turn<R: Wait + Clock>(
     requires left { 0 < left pass }
 {
     thread::sleep(rt, later);
-    count_turn(rt, room, &mut pass);
+    count_turn(rt, room, &mut pass, 0);
 }
 
 /// One thread makes a turn that takes `time`, and another wants one when `later` has gone by.

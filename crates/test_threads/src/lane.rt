@@ -5,7 +5,7 @@ ghost use Rattle.turnstile.specs.Words.{name_of};
 ghost use Rattle.turnstile.specs.Passes.{IsPass, mine, number, left, made};
 
 use crate::count::{Count, count_so_far, count_turn};
-use causes::OutOfMemory;
+use base_types::OutOfMemory;
 use std::alloc::Global;
 use std::marker::{Brand, Model, PhantomData};
 use std::sync::{Mutex, Wait};
@@ -58,25 +58,28 @@ impl<B: Room> Lane<B> {
         }
     }
 
-    /// One turn, if the pass has one left.
-    pub fn step<R: Wait>(&mut self, rt: &R, room: &Turnstile<Count>) -> bool
+    /// One turn of so many pauses, if the pass has one left.
+    pub fn step<R: Wait>(&mut self, rt: &R, room: &Turnstile<Count>, pauses: u32) -> bool
         requires { name_of room.now ≡ B.name }
         ensures { self.new ≡ self.old + (if result then 1 else 0) }
     {
         if self.pass.left() == 0 || self.counted == u64::MAX {
             return false;
         }
-        let done = count_turn(rt, room, &mut self.pass);
+        let done = count_turn(rt, room, &mut self.pass, pauses);
         self.counted += u64::from(done);
         done
     }
 
-    /// So many turns.
-    pub fn run<R: Wait>(&mut self, rt: &R, room: &Turnstile<Count>, turns: u64)
+    /// So many turns. The first has no pause, each further one a pause more, up to the longest, and then again
+    /// from none on.
+    pub fn run<R: Wait>(&mut self, rt: &R, room: &Turnstile<Count>, turns: u64, longest: u32)
         requires { name_of room.now ≡ B.name }
     {
+        let mut pauses = 0;
         for _ in 0..turns {
-            self.step(rt, room);
+            self.step(rt, room, pauses);
+            pauses = if pauses < longest { pauses + 1 } else { 0 };
         }
     }
 }
@@ -86,7 +89,7 @@ fn run_locked<B: Room, R: Wait>(rt: &R, room: &Turnstile<Count>, lane: &Mutex<La
     requires { name_of room.now ≡ B.name }
 {
     for _ in 0..turns {
-        lane.lock(rt).step(rt, room);
+        lane.lock(rt).step(rt, room, 0);
     }
 }
 
@@ -141,7 +144,8 @@ fn lanes<B: Room>(
     Ok(lanes)
 }
 
-/// So many threads make so many turns each, and then the first pass looks how many were counted.
+/// So many threads make so many turns each, as `Lane::run` does, and then the first pass looks how many were
+/// counted.
 pub fn count_by_lanes<B: Room + Send + Sync, R: Threads + Wait + Sync>(
     rt: &R,
     alloc: Global,
@@ -149,6 +153,7 @@ pub fn count_by_lanes<B: Room + Send + Sync, R: Threads + Wait + Sync>(
     mut first: Pass<Count>,
     threads: usize,
     turns: u64,
+    longest: u32,
 ) -> Result<u64, OutOfMemory>
     requires room { name_of room.now ≡ B.name }
     requires first { IsPass (name_of room.now) first × (made first ≡ 1) × (0 < left first) }
@@ -159,7 +164,7 @@ pub fn count_by_lanes<B: Room + Send + Sync, R: Threads + Wait + Sync>(
         rt,
         lanes.as_mut_slice(),
         threads,
-        &|_, lane| lane.run(rt, room, turns),
+        &|_, lane| lane.run(rt, room, turns, longest),
     );
     Ok(count_so_far(rt, room, &mut first))
 }
@@ -170,9 +175,10 @@ pub fn count_by_many<R: Threads + Wait + Sync>(
     alloc: Global,
     threads: usize,
     turns: u64,
+    longest: u32,
 ) -> Result<u64, OutOfMemory>
     requires { (0 < threads) × (threads < 64) }
 {
     let (room, first) = Turnstile::new(alloc, Count { turns: 0 })?;
-    count_by_lanes::<Brand, R>(rt, alloc, &room, first, threads, turns)
+    count_by_lanes::<Brand, R>(rt, alloc, &room, first, threads, turns, longest)
 }

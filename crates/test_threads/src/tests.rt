@@ -1,4 +1,4 @@
-use super::count::{Count, wait_for_a_slow_turn};
+use super::count::{Count, count_turns, wait_for_a_slow_turn};
 use super::lane::{count_behind_a_lock, count_by_many};
 use super::marks::{Marks, count_own, look, mark, mark_by_two, mark_two};
 use super::pile::{Pile, put};
@@ -43,7 +43,15 @@ fn two_threads_make_a_thousand_turns_each(rt: HostRuntime) -> Result<(), Fail> {
 
 #[test]
 fn eight_threads_are_counted(rt: HostRuntime) -> Result<(), Fail> {
-    assert_eq!(rt; count_by_many(&rt, rt.alloc(), 8, 2000)?, 16_000);
+    assert_eq!(rt; count_by_many(&rt, rt.alloc(), 8, 2000, 0)?, 16_000);
+    Ok(())
+}
+
+// The turns take from none of the time after which a waiting thread sleeps up to several times as much, so that many turns end
+// just when one goes to sleep: a wake that is lost then leaves it asleep for ever.
+#[test]
+fn eight_threads_that_sleep_are_all_woken(rt: HostRuntime) -> Result<(), Fail> {
+    assert_eq!(rt; count_by_many(&rt, rt.alloc(), 8, 4000, 2000)?, 32_000);
     Ok(())
 }
 
@@ -88,6 +96,8 @@ fn processor_time(rt: &HostRuntime) -> Option<u64> {
 fn a_slow_turn_keeps_no_core_busy(rt: HostRuntime) -> Result<(), Fail> {
     let (room, mut a) = Turnstile::new(rt.alloc(), Count { turns: 0 })?;
     let b = room.pass(&mut a);
+    // So that the number of turns that have ended has more than 16 bits.
+    count_turns(&rt, &room, &mut a, 70_000);
     let slow = Duration::from_millis(3000);
     let late = Duration::from_millis(100);
     let before = processor_time(&rt).ok_or("no times")?;

@@ -12,7 +12,7 @@ use Rattle.turnstile.specs.declared.view.View.{View}
 use Rattle.turnstile.specs.declared.view.Stage.{Stage}
 use Rattle.turnstile.specs.declared.view.Stage.TheVariants.{Idle, Waiting, Inside, Filling}
 use Rattle.turnstile.specs.History.{Begins, of_pass, entries, tagged, MayAdd, times, mine_of}
-use Rattle.turnstile.specs.Turns.{Room, Queued, Stands, Fits, Busy, Slot, Kept, rights, total}
+use Rattle.turnstile.specs.Turns.{Room, Queued, Stands, Fits, Busy, Slot, Kept, rights, total, words_of}
 use Rattle.turnstile.specs.Steps.{with_ticket, seeing, entered, draws, looks, learns, opens, serves, number_of, first_mine, IsOne, with_entries}
 use Rattle.turnstile.proofs.Histories.{begins_same, begins_more, of_others, of_mine, owned_more, times_one, mine_one, one_only, one_at_most, entries_more}
 
@@ -105,12 +105,12 @@ module _ {M E : Type 0} where
 
     pub lifts : (slots id : ℕ) (me : Me (Option M) (View M E)) (i : ℕ) (f : ℕ → ℕ) (then : ℕ → Me (Option M) (View M E) → Type 0)
         → ((s : State (Option M) (View M E)) (k : Kept leads owner start s) → get_elem? s.views id ≡ some me.0
-        → Step id me i f then s.views (k.room.drawn ∷ k.room.served ∷ k.room.sleepers ∷ []) (k.room.home ∷ []))
+        → Step id me i f then s.views (words_of k.room.drawn k.room.served k.room.sleepers) (k.room.home ∷ []))
         → Allows (Kept leads owner start) slots id me i f then
     lifts slots id me i f then inner s k wide at near = subst (λ (p : List ℕ × List (maybe.Option (Option M))). Step id me i f then s.views p.0 p.1) (λ t. (sym k.words t, sym k.homes t)) (inner s k at)
 
     -- the rule at words that are written out, with another count of sleepers
-    rested : (s : State (Option M) (View M E)) (k : Kept leads owner start s) (n : ℕ) → Kept leads owner start record { words = k.room.drawn ∷ k.room.served ∷ n ∷ []; homes = k.room.home ∷ []; views = s.views }
+    rested : (s : State (Option M) (View M E)) (k : Kept leads owner start s) (n : ℕ) → Kept leads owner start record { words = words_of k.room.drawn k.room.served n; homes = k.room.home ∷ []; views = s.views }
     rested s k n = record {
       room = record k.room { sleepers = n };
       words = refl;
@@ -154,12 +154,12 @@ module _ {M E : Type 0} where
         parts = f.parts;
       }
 
-    pub rests_keep : (slots id : ℕ) (me : Me (Option M) (View M E)) (f : ℕ → ℕ) → Allows (Kept leads owner start) slots id me 2 f (λ n w. w ≡ me)
-    rests_keep slots id me f = lifts slots id me 2 f (λ n w. w ≡ me) (λ s k at. let r = k.room in (
+    pub rests_keep : (slots id : ℕ) (me : Me (Option M) (View M E)) (f : ℕ → ℕ) → Allows (Kept leads owner start) slots id me 10 f (λ n w. w ≡ me)
+    rests_keep slots id me f = lifts slots id me 10 f (λ n w. w ≡ me) (λ s k at. let r = k.room in (
       me.0,
       keeps,
       tt,
-      subst (λ vs. Kept leads owner start record { words = r.drawn ∷ r.served ∷ f r.sleepers ∷ []; homes = r.home ∷ []; views = vs }) (sym (set_again s.views id me.0 at)) (rested s k (f r.sleepers)),
+      subst (λ vs. Kept leads owner start record { words = words_of r.drawn r.served (f r.sleepers); homes = r.home ∷ []; views = vs }) (sym (set_again s.views id me.0 at)) (rested s k (f r.sleepers)),
       refl,
     ))
 
@@ -178,8 +178,8 @@ module _ {M E : Type 0} where
     draw_slot r id Inside h = h
     draw_slot r id Filling h = h
 
-    pub draws_keep : (slots id : ℕ) (me : Me (Option M) (View M E)) → me.0.stage ≡ Idle → 0 < me.0.left → IsOne me.0.parts → Allows (Kept leads owner start) slots id me 0 (λ n. (n + 1) % 2 ^ 64) (draws me)
-    draws_keep slots id me idle some_left one = lifts slots id me 0 (λ n. (n + 1) % 2 ^ 64) (draws me) (λ s k at.
+    pub draws_keep : (slots id : ℕ) (me : Me (Option M) (View M E)) → me.0.stage ≡ Idle → 0 < me.0.left → IsOne me.0.parts → Allows (Kept leads owner start) slots id me 8 (λ n. (n + 1) % 2 ^ 64) (draws me)
+    draws_keep slots id me idle some_left one = lifts slots id me 8 (λ n. (n + 1) % 2 ^ 64) (draws me) (λ s k at.
         let r = k.room in let f = k.each id me.0 at in let v = me.0 in let w = with_ticket v r.drawn in let u = k.upto in
         let b = k.budget in let t = total_set s.views id v w at in
         let fits : r.drawn + 1 < 2 ^ 64 = omega arith in
@@ -190,7 +190,7 @@ module _ {M E : Type 0} where
           tt,
           record {
             room = r';
-            words = ap (λ n. n ∷ r.served ∷ r.sleepers ∷ []) wrap;
+            words = ap (λ n. words_of n r.served r.sleepers) wrap;
             homes = refl;
             slot = draw_slot r id r.turn k.slot;
             busy = still_busy s.views r id v w (r.drawn + 1) (put r.holder r.drawn id) r.turn at (λ e. apart Idle Inside v.stage idle e (λ z. omega arith)) (λ e. apart Idle Filling v.stage idle e (λ z. omega arith)) (omega arith)
@@ -225,7 +225,7 @@ module _ {M E : Type 0} where
 
     -- The seat id, whose ticket is called, is inside now, and the slot is out with it
     turn_kept : (s : State (Option M) (View M E)) (k : Kept leads owner start s) (id : ℕ) (v : View M E) → get_elem? s.views id ≡ some v → Queued k.room id v → v.ticket ≡ k.room.served
-        → Kept leads owner start record { words = k.room.drawn ∷ k.room.served ∷ k.room.sleepers ∷ []; homes = none ∷ []; views = set s.views id (entered v k.room.hist) }
+        → Kept leads owner start record { words = words_of k.room.drawn k.room.served k.room.sleepers; homes = none ∷ []; views = set s.views id (entered v k.room.hist) }
     turn_kept s k id v at q here = let r = k.room in let f = k.each id v at in let w = entered v r.hist in let r' : Room M E = record r { turn = Inside; home = none } in let l = q.2 in record {
       room = r';
       words = refl;
@@ -246,8 +246,8 @@ module _ {M E : Type 0} where
     at_home : (r : Room M E) (k : Stage) → k ≡ Idle → Slot leads owner start r k → Slot leads owner start r Idle
     at_home r k e h = subst (Slot leads owner start r) e h
 
-    pub looks_keep : (slots id : ℕ) (me : Me (Option M) (View M E)) → me.0.stage ≡ Waiting → me.1 ≡ [] → Allows (Kept leads owner start) slots id me 1 (λ n. n) (looks leads owner me)
-    looks_keep slots id me waits none_held = lifts slots id me 1 (λ n. n) (looks leads owner me) (λ s k at. let r = k.room in let f = k.each id me.0 at in let v = me.0 in
+    pub looks_keep : (slots id : ℕ) (me : Me (Option M) (View M E)) → me.0.stage ≡ Waiting → me.1 ≡ [] → Allows (Kept leads owner start) slots id me 9 (λ n. n) (looks leads owner me)
+    looks_keep slots id me waits none_held = lifts slots id me 9 (λ n. n) (looks leads owner me) (λ s k at. let r = k.room in let f = k.each id me.0 at in let v = me.0 in
         let q = subst (Stands r id v) waits f.stands in
         dite (ℕ_discrete r.served v.ticket)
         (λ here. let home = at_home r r.turn (q.1 (sym here)) k.slot in (
@@ -272,15 +272,15 @@ module _ {M E : Type 0} where
           v,
           keeps,
           tt,
-          subst (λ vs. Kept leads owner start record { words = r.drawn ∷ r.served ∷ r.sleepers ∷ []; homes = r.home ∷ []; views = vs }) (sym (set_again s.views id v at)) (rested s k r.sleepers),
+          subst (λ vs. Kept leads owner start record { words = words_of r.drawn r.served r.sleepers; homes = r.home ∷ []; views = vs }) (sym (set_again s.views id v at)) (rested s k r.sleepers),
           ((λ e. absurd (ne e)), (λ _. refl)),
         )))
 
     filling_slot : (r : Room M E) (k : Stage) → k ≡ Filling → Slot leads owner start r k → r.home ≡ some None
     filling_slot r k e h = subst (Slot leads owner start r) e h
 
-    pub opens_keep : (slots id : ℕ) (me : Me (Option M) (View M E)) → me.0.stage ≡ Filling → me.1 ≡ [] → Allows (Kept leads owner start) slots id me 1 (λ n. n) (λ n. opens me)
-    opens_keep slots id me fills none_held = lifts slots id me 1 (λ n. n) (λ n. opens me) (λ s k at. let r = k.room in let f = k.each id me.0 at in let v = me.0 in
+    pub opens_keep : (slots id : ℕ) (me : Me (Option M) (View M E)) → me.0.stage ≡ Filling → me.1 ≡ [] → Allows (Kept leads owner start) slots id me 9 (λ n. n) (λ n. opens me)
+    opens_keep slots id me fills none_held = lifts slots id me 9 (λ n. n) (λ n. opens me) (λ s k at. let r = k.room in let f = k.each id me.0 at in let v = me.0 in
         let q = subst (Stands r id v) fills f.stands in let home = filling_slot r r.turn q.1.1 k.slot in (
           entered v r.hist,
           takes 0 None,
@@ -330,21 +330,21 @@ module _ {M E : Type 0} where
         }
 
     pub serves_keep : (slots id : ℕ) (me : Me (Option M) (View M E)) (es : List E) (m : M) → me.0.stage ≡ Inside → IsOne me.0.parts → MayAdd owner (number_of me.0.parts) es → me.1 ≡ (0, Some m) ∷ [] → leads start (entries me.0.seen ++ es) m
-        → Allows (Kept leads owner start) slots id me 1 (λ n. (n + 1) % 2 ^ 64) (λ n. serves es me)
-    serves_keep slots id me es m inside one may held lead = lifts slots id me 1 (λ n. (n + 1) % 2 ^ 64) (λ n. serves es me) (λ s k at. let r = k.room in let f = k.each id me.0 at in let v = me.0 in let w = with_entries v es in
+        → Allows (Kept leads owner start) slots id me 9 (λ n. (n + 1) % 2 ^ 64) (λ n. serves es me)
+    serves_keep slots id me es m inside one may held lead = lifts slots id me 9 (λ n. (n + 1) % 2 ^ 64) (λ n. serves es me) (λ s k at. let r = k.room in let f = k.each id me.0 at in let v = me.0 in let w = with_entries v es in
         let p : ℕ = number_of v.parts in let mine : List E = first_mine v.parts in
         let q = subst (Stands r id v) inside f.stands in let b = k.budget in let below = q.0.2 in let here = q.1.0 in
         let fits : r.served + 1 < 2 ^ 64 = omega arith in
         let wrap : (r.served + 1) % 2 ^ 64 ≡ r.served + 1 = mod-eq_of_lt fits in
         let old = f.parts p (subst (λ ps. 0 < times p ps) (sym one) (let o = times_one p mine in omega arith)) in let low = old.1 in
         let r' : Room M E = record r { hist = r.hist ++ tagged p es; served = r.served + 1; turn = Idle; home = some (Some m) } in
-        subst (λ cs. Step id (v, cs) 1 (λ n. (n + 1) % 2 ^ 64) (λ n. serves es (v, cs)) s.views (r.drawn ∷ r.served ∷ r.sleepers ∷ []) (r.home ∷ [])) (sym held) (
+        subst (λ cs. Step id (v, cs) 9 (λ n. (n + 1) % 2 ^ 64) (λ n. serves es (v, cs)) s.views (words_of r.drawn r.served r.sleepers) (r.home ∷ [])) (sym held) (
           w,
           gives,
           tt,
           record {
             room = r';
-            words = ap (λ n. r.drawn ∷ n ∷ r.sleepers ∷ []) wrap;
+            words = ap (λ n. words_of r.drawn n r.sleepers) wrap;
             homes = refl;
             slot = (m, refl, subst (λ y. leads start y m) (sym (entries_more p r.hist es)) (subst (λ y. leads start (entries y ++ es) m) q.1.2 lead));
             busy = tt;
@@ -358,8 +358,8 @@ module _ {M E : Type 0} where
           refl,
         ))
 
-    pub learns_keep : (slots id : ℕ) (me : Me (Option M) (View M E)) → me.0.stage ≡ Idle → Allows (Kept leads owner start) slots id me 1 (λ n. n) (λ n. learns me)
-    learns_keep slots id me idle = lifts slots id me 1 (λ n. n) (λ n. learns me) (λ s k at. let r = k.room in let f = k.each id me.0 at in let v = me.0 in let w = seeing v r.hist in (
+    pub learns_keep : (slots id : ℕ) (me : Me (Option M) (View M E)) → me.0.stage ≡ Idle → Allows (Kept leads owner start) slots id me 9 (λ n. n) (λ n. learns owner me)
+    learns_keep slots id me idle = lifts slots id me 9 (λ n. n) (λ n. learns owner me) (λ s k at. let r = k.room in let f = k.each id me.0 at in let v = me.0 in let w = seeing v r.hist in (
       w,
       keeps,
       tt,
@@ -385,5 +385,5 @@ module _ {M E : Type 0} where
           parts = f.parts;
         };
       },
-      (r.hist, refl, (f.seen, f.heard), (λ n h. (f.parts n h).2)),
+      (r.hist, refl, (f.seen, f.heard), (λ n h. (f.parts n h).2), k.owned),
     ))

@@ -9,7 +9,7 @@ use Rattle.turnstile.specs.declared.view.View.{View}
 use Rattle.turnstile.specs.declared.view.Stage.{Stage}
 use Rattle.turnstile.specs.declared.view.Stage.TheVariants.{Idle, Waiting, Inside, Filling}
 use Rattle.turnstile.specs.History.{Begins, of_pass, times, mine_of}
-use Rattle.turnstile.specs.Turns.{Room, Stands, Fits, Busy, Slot, Kept, rights, total}
+use Rattle.turnstile.specs.Turns.{Room, Stands, Fits, Busy, Slot, Kept, rights, total, words_of}
 use Rattle.turnstile.specs.Steps.{first_view, spent_view, after_pass, new_pass, note, joined}
 use Rattle.turnstile.proofs.Histories.{times_append, mine_first, mine_later, one_only, one_at_most}
 use Rattle.turnstile.proofs.Keeps.{put, put_here, put_else, apart, each_set, total_set, still_busy}
@@ -240,7 +240,7 @@ module _ {M E : Type 0} where
               };
         }
 
-    pub opening_kept : Kept leads owner start (opening (1 ∷ 0 ∷ 0 ∷ []) (None ∷ []) (first_view start))
+    pub opening_kept : Kept leads owner start (opening (words_of 1 0 0) (None ∷ []) (first_view start))
     opening_kept = let r : Room M E = record { hist = []; holder = λ _. 0; seat_of = λ _. 0; base = 0; made = 1; drawn = 1; served = 0; sleepers = 0; turn = Filling; home = some None } in record {
       room = r;
       words = refl;

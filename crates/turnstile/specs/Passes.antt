@@ -1,5 +1,5 @@
 -- What a clause says of a pass.
-use Rattle.std.specs.Prelude.{◌≡◌, ◌==◌, ℕ, ◌+◌, ◌^◌, ◌<◌, ◌≤◌, length, List, [], ◌∷◌, Option, Some, None}
+use Rattle.std.specs.Prelude.{◌≡◌, ◌==◌, ℕ, ◌+◌, ◌^◌, ◌<◌, ◌≤◌, length, List, [], ◌∷◌, ◌++◌, Option, Some, None}
 use Rattle.std.specs.Prelude.{cond}
 use Rattle.atomic_table.specs.Seated.{TableId}
 use Rattle.atomic_table.specs.Table.{rest}
@@ -99,6 +99,16 @@ module _ {M E : Type 0} where
   -- a pass with this number that has all turns, has made no entry, and counts so many passes
   abbrev pub IsNew : PassWith M E → ℕ → ℕ → Type 0
   IsNew p n count = (number p ≡ n) × (left p ≡ 2 ^ 56) × (mine p ≡ []) × (made p ≡ count)
+
+  -- the pass has made at least as many entries as turns
+  abbrev pub IsPaced : PassWith M E → Type 0
+  IsPaced p = 2 ^ 56 ≤ left p + length (mine p)
+
+  -- the pass stays so in a turn that adds an entry, from its begin to its end
+  abbrev pub TurnIsPaced : PassWith M E → PassWith M E → PassWith M E → Type 0
+  TurnIsPaced p q r =
+      (es : List E) → OneTurnLess p q → SameButEntries q r → mine r ≡ mine q ++ es → 1 ≤ length es
+      → IsPaced p → IsPaced r
 
   -- each of these is a pass of the turnstile that makes no turn
   abbrev pub ArePasses : Name M → List (PassWith M E) → Type 0

@@ -144,8 +144,10 @@ module _ {M E : Type 0} where
   abbrev pub serves : List E → Me (Option M) (View M E) → Me (Option M) (View M E) → Type 0
   serves es m w = w ≡ (with_entries m.0 es, [])
 
-  abbrev pub learns : Me (Option M) (View M E) → Me (Option M) (View M E) → Type 0
-  learns m w = (h : List (ℕ × E)) × (w ≡ (seeing m.0 h, m.1)) × AllHeard m.0 h × Knows m.0 h
+  -- the seat sees what has happened so far
+  abbrev pub learns : (E → Option ℕ) → Me (Option M) (View M E) → Me (Option M) (View M E) → Type 0
+  learns owner m w =
+      (h : List (ℕ × E)) × (w ≡ (seeing m.0 h, m.1)) × AllHeard m.0 h × Knows m.0 h × Owned owner h
 
   module _ (leads : M → List E → M → Type 0) (owner : E → Option ℕ) where
     -- the seat is inside: it has the value, and sees the history that leads to it
@@ -161,7 +163,7 @@ module _ {M E : Type 0} where
 
   -- the seat is one of this table, at this stage
   abbrev pub IsOf : TableId → Seat (Option M) (View M E) → Stage → Type 0
-  IsOf table seat stage = (seat.table_id ≡ table) × (table.words ≡ 3) × (seat.me.0.stage ≡ stage)
+  IsOf table seat stage = (seat.table_id ≡ table) × (table.words ≡ 19) × (seat.me.0.stage ≡ stage)
 
   -- the seat waits with this ticket at the table that was made with this value, and has no slot
   abbrev pub WaitsWith : TableId → M → Seat (Option M) (View M E) → ℕ → Type 0

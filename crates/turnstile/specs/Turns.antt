@@ -1,6 +1,6 @@
 -- The rule of the turnstile: what holds of its table between any two steps.
--- Word 0 is how many tickets were drawn, word 1 how many turns have
--- ended, and word 2 how many threads sleep. The one slot has the value.
+-- Word 8 is how many tickets were drawn, word 9 how many turns have
+-- ended, and word 10 how many threads sleep. The one slot has the value.
 use Rattle.std.specs.Prelude.{◌≡◌, ℕ, ◌+◌, ◌*◌, ◌<◌, ◌≤◌, List, [], ◌∷◌, Option, Some, None}
 use mathlib.Core.Option.{some}
 use mathlib.Core.Option as maybe
@@ -25,6 +25,12 @@ pub record Room (M E : Type 0) : Type 0 where
   pub sleepers : ℕ
   pub turn : Stage
   pub home : maybe.Option (Option M)
+
+-- The words of the table. Eight that stay 0 lie on either side of the
+-- three, so that 64 bytes are between these and all other memory.
+abbrev pub words_of : ℕ → ℕ → ℕ → List ℕ
+words_of drawn served sleepers =
+    0 ∷ 0 ∷ 0 ∷ 0 ∷ 0 ∷ 0 ∷ 0 ∷ 0 ∷ drawn ∷ served ∷ sleepers ∷ 0 ∷ 0 ∷ 0 ∷ 0 ∷ 0 ∷ 0 ∷ 0 ∷ 0 ∷ []
 
 module _ {M E : Type 0} where
   -- the turns that a seat may still draw tickets for, or give to new passes, which have 2^56 each
@@ -86,7 +92,7 @@ module _ {M E : Type 0} where
     -- No word wraps: the tickets that were drawn and those that may be are 2^62 and the one of `new`
     pub record Kept (start : M) (s : State (Option M) (View M E)) : Type 0 where
       pub room : Room M E
-      pub words : s.words ≡ room.drawn ∷ room.served ∷ room.sleepers ∷ []
+      pub words : s.words ≡ words_of room.drawn room.served room.sleepers
       pub homes : s.homes ≡ room.home ∷ []
       pub slot : Slot start room room.turn
       pub busy : Busy s.views room room.turn

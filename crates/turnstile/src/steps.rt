@@ -16,26 +16,31 @@ pub type Door<M> = Shared<Option<M>, View<M, <M as Told>::Entry>, M, Law>;
 
 pub type Place<M> = Seat<Option<M>, View<M, <M as Told>::Entry>>;
 
+/// The table's words, the first ticket drawn. Those on either side of the three that are used keep 64 bytes
+/// between these, which waiting threads look at, and the value, which the turn in progress changes.
+pub const WORDS: [u64; 19] = [0, 0, 0, 0, 0, 0, 0, 0, 1, 0, 0, 0, 0, 0, 0, 0, 0, 0, 0];
+
 /// How many tickets were drawn.
-const DRAWN: usize = 0;
+const DRAWN: usize = 8;
 
 /// How many turns have ended, which is also the ticket whose turn it is.
-pub const SERVED: usize = 1;
+pub const SERVED: usize = 9;
 
 /// How many threads sleep until a turn ends, or are about to.
-const SLEEPERS: usize = 2;
+const SLEEPERS: usize = 10;
 
 /// The slot of the value.
 pub const VALUE: usize = 0;
 
-/// How often a thread tries again at once before it gives way to others.
-const SPINS: u32 = 64;
+/// How many times a thread looks again after a pause, each twice as long as the one before, until it gives
+/// way to others from then on.
+const PAUSES: u32 = 7;
 
 /// How often a thread tries before it draws a ticket while others have some.
-const APPROACHES: u32 = 512;
+const APPROACHES: u32 = 64;
 
 /// How often a thread with a ticket looks before it sleeps.
-const LOOKS: u32 = 128;
+const LOOKS: u32 = 16;
 
 /// The first value goes into the slot, by a turn that adds no entry.
 pub fn open<M: Told>(door: &Door<M>, seat: &mut Place<M>, value: M)
@@ -53,11 +58,14 @@ pub fn open<M: Told>(door: &Door<M>, seat: &mut Place<M>, value: M)
     serve::<M, Brand>(door, seat);
 }
 
-/// Gives way to the thread whose turn it is.
+/// Leaves the words alone for a while, so that the thread whose turn it is has them to itself; the longer, the
+/// more looks there were.
 #[cold]
-fn give_way(tries: u32) {
-    if tries < SPINS {
-        hint::spin_loop();
+fn give_way(looks: u32) {
+    if looks < PAUSES {
+        for _ in 0..1u32 << looks {
+            hint::spin_loop();
+        }
     } else {
         thread::yield_now();
     }
@@ -66,7 +74,7 @@ fn give_way(tries: u32) {
 /// Whether nobody has a ticket.
 #[inline]
 fn is_free<M: Told>(door: &Door<M>) -> bool
-    requires { door.now.table_id.words ≡ 3 }
+    requires { door.now.table_id.words ≡ 19 }
 {
     door.peek(SERVED) == door.peek(DRAWN)
 }
@@ -74,7 +82,7 @@ fn is_free<M: Told>(door: &Door<M>) -> bool
 /// Waits a while for a moment at which nobody has a ticket.
 #[cold]
 fn hold_back<M: Told>(door: &Door<M>)
-    requires { door.now.table_id.words ≡ 3 }
+    requires { door.now.table_id.words ≡ 19 }
 {
     for tries in 0..APPROACHES {
         give_way(tries);
@@ -88,7 +96,7 @@ fn hold_back<M: Told>(door: &Door<M>)
 /// drew one and was then put off by the system would hold up all others; so few have one at a time.
 #[inline]
 pub fn approach<M: Told>(door: &Door<M>)
-    requires { door.now.table_id.words ≡ 3 }
+    requires { door.now.table_id.words ≡ 19 }
 {
     if !is_free(door) {
         hold_back(door);
@@ -118,7 +126,7 @@ fn look<M: Told>(door: &Door<M>, seat: &mut Place<M>, ticket: u64) -> bool
 /// Sleeps until a turn ends, unless the ticket is called by now.
 #[cold]
 fn sleep<M: Told, R: Wait>(rt: &R, door: &Door<M>, seat: &mut Place<M>, ticket: u64)
-    requires { (seat.old.table_id ≡ door.now.table_id) × (door.now.table_id.words ≡ 3) }
+    requires { (seat.old.table_id ≡ door.now.table_id) × (door.now.table_id.words ≡ 19) }
     ensures { Becomes seat.old seat.new seat.old.me }
 {
     door.fetch_add::<Rests>(seat, SLEEPERS, 1);

@@ -8,11 +8,11 @@ ghost use Rattle.turnstile.specs.Passes.{SameButSeen, SameButEntries, OneTurnLes
 ghost use Rattle.turnstile.specs.Passes.{mine, seen, number, left, made, value_in, parts_of, made_by};
 
 use crate::pass::{Pass, PassWith};
-use crate::steps::{Place, SERVED, VALUE, approach, draw, open, serve, wait};
+use crate::steps::{Place, SERVED, VALUE, WORDS, approach, draw, open, serve, wait};
 use crate::told::Told;
 use crate::view::{Adds, Joins, Law, Learns, NewPass, Notes, View};
 use atomic_table::Table;
-use causes::OutOfMemory;
+use base_types::OutOfMemory;
 use std::alloc::Global;
 use std::sync::Wait;
 
@@ -20,7 +20,7 @@ use std::sync::Wait;
 #[derive(Drop)]
 pub struct Turnstile<M: Told> {
     table: Table<Option<M>, View<M, M::Entry>, M, Law, Global>,
-    ghost sized: { (table.shared.table_id.words ≡ 3) × (table.shared.table_id.slots ≡ 1) },
+    ghost sized: { (table.shared.table_id.words ≡ 19) × (table.shared.table_id.slots ≡ 1) },
 }
 
 /// One turn: the value is this pass's alone until `leave`, which a turn has to end with.
@@ -40,7 +40,7 @@ impl<M: Told> Turnstile<M> {
         ensures first { IfOk result (λ r. first_of r.0 ≡ value) }
         ensures pass { IfOk result (λ r. IsPass (name_of r.0) r.1 × IsNew r.1 0 1 × (seen r.1 ≡ [])) }
     {
-        let (table, mut seat) = Table::vacant(alloc, &[1, 0, 0], 1, &value)?;
+        let (table, mut seat) = Table::vacant(alloc, &WORDS, 1, &value)?;
         open(&table.shared, &mut seat, value);
         let pass = PassWith {
             seat,
@@ -61,6 +61,7 @@ impl<M: Told> Turnstile<M> {
         ensures from { IsPass (name_of self.now) from.new × OnePassMore from.old from.new }
         ensures new { IsPass (name_of self.now) result × IsNew result (made from.old) 0 }
         ensures seen { Begins (seen result) (seen from.old) }
+        ensures owned { Owned M.owner (seen result) }
     {
         let mut seat = self.table.shared.split_seat::<NewPass>(&mut from.seat);
         self.table.shared.load::<Learns>(&mut seat, SERVED);
@@ -81,6 +82,7 @@ impl<M: Told> Turnstile<M> {
         ensures a { IsPass (name_of self.now) a.new × SameButSeen a.old a.new × (seen a.new ≡ seen a.old) }
         ensures b { IsPass (name_of self.now) b.new × SameButSeen b.old b.new }
         ensures seen { Begins (seen b.new) (seen b.old) × Begins (seen b.new) (seen a.old) }
+        ensures owned { Owned M.owner (seen b.new) }
     {
         let note = self.table.shared.split_seat::<Notes>(&mut a.seat);
         self.table.shared.join_seat::<Joins>(&mut b.seat, note);
@@ -95,6 +97,7 @@ impl<M: Told> Turnstile<M> {
         ensures b { IsPass (name_of self.now) b.new × SameButSeen b.old b.new }
         ensures a_seen { Begins (seen a.new) (seen a.old) × Begins (seen a.new) (seen b.old) }
         ensures b_seen { Begins (seen b.new) (seen a.old) × Begins (seen b.new) (seen b.old) }
+        ensures owned { Owned M.owner (seen a.new) × Owned M.owner (seen b.new) }
     {
         self.tell(a, b);
         self.tell(b, a);

@@ -75,10 +75,10 @@ impl<M: Told> Play<Option<M>, View<M, M::Entry>> for Looks {
 
 pub struct Learns;
 
-impl<M, E> Play<Option<M>, View<M, E>> for Learns {
+impl<M: Told> Play<Option<M>, View<M, M::Entry>> for Learns {
     ghost use Rattle.turnstile.specs.Steps.{learns};
 
-    ghost then = { λ s m n w. learns m w };
+    ghost then = { λ s m n w. learns M.owner m w };
 }
 
 /// The count of those who sleep changes, and nothing else.

@@ -1,5 +1,5 @@
 use Rattle.std.proofs.Common.{sym, ap, ◌∙◌, subst, refl, arith, length}
-use Rattle.turnstile.specs.History.{Begins}
+use Rattle.turnstile.specs.History.{Begins, Owned}
 use Rattle.turnstile.specs.Steps.{joined}
 use Rattle.turnstile.proofs.Passing.{note_splits, view_joins}
 use Rattle.turnstile.proofs.Keeps.{learns_keep}
@@ -29,3 +29,6 @@ returns-clause-seen g c = let x = c.split_seat-note.ensures in let y = c.join_se
       subst (λ t. Begins t v.seen) is (subst (λ w. Begins h w.seen) j b.0),
       subst (λ t. Begins t a.seen) is (b.1 (length v.heard) a.seen (ap (λ w. get_elem? w.heard (length v.heard)) j ∙ at_last v.heard a.seen (length v.heard) refl)),
     )
+
+pub returns-clause-owned : goal.returns-clause-owned
+returns-clause-owned g c = let z = c.load.ensures.2 in subst (Owned g.M.Told.owner) (sym (ap (λ m. m.0.seen) z.1)) z.4
