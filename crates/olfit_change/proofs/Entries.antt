@@ -1,11 +1,11 @@
 -- What putting an entry into a list of rising entries, taking one out and cutting the list make of it.
-use Rattle.std.proofs.Common.{◌≡◌, ◌≢◌, ◌⊎◌, ℕ, zero, suc, ◌+◌, ◌<◌, ◌≤◌, nat_le, Bool, cond, eqb, List, [], ◌∷◌, length, take, drop, get_or, Option, Some, None, sym, refl, ap, ◌∙◌, subst, arith, inl, inr, eq-eqb, get_or-take, get_or-drop, length-drop}
+use Rattle.std.proofs.Common.{◌≡◌, ◌≢◌, ◌⊎◌, ℕ, zero, suc, ◌+◌, ◌<◌, ◌≤◌, nat_le, Bool, cond, eqb, List, [], ◌∷◌, length, take, drop, get_or, Option, Some, None, sym, refl, ap, ◌∙◌, subst, arith, inl, inr, ⊎_elim, eq-eqb, get_or-take, get_or-drop, length-drop}
 use Rattle.std.specs.Prelude.{slice_get, IfSome}
-use Rattle.std.specs.List.{All, count_by, insert, remove}
+use Rattle.std.specs.List.{All, Contains, count_by, insert, remove}
 use Rattle.std.proofs.lemmas.Bool.{cases_lt, cases_eq, ne_eqb, le-leb, lt-leb}
-use Rattle.std.proofs.lemmas.List.{length-take-le, get_or_default}
+use Rattle.std.proofs.lemmas.List.{length-take-le, get_or_default, take-append-drop}
 use Rattle.std.proofs.lemmas.List.Sums.{sum_by-cons, count_by-le-length}
-use Rattle.std.proofs.lemmas.List.Elements.{All-append, All-take, All-drop, All-cons}
+use Rattle.std.proofs.lemmas.List.Elements.{All-append, All-take, All-drop, All-cons, Contains-append_cases, Contains-append_left, Contains-append_right, Contains-get_or}
 use Rattle.olfit_nodes.specs.Nodes.{Entry, Rises}
 use Rattle.olfit_rule.specs.Maps.{map_of}
 
@@ -209,3 +209,20 @@ pub map_some : (xs : List Entry) (p k : ℕ) → p < length xs → ((d : Entry) 
 map_some [] p k h is none = absurd (omega arith)
 map_some (x ∷ xs) zero k h is none = other_key x xs k none (is (0, 0))
 map_some (x ∷ xs) (suc p) k h is none = map_some xs p k (omega arith) is (absent_tail x xs k none)
+
+-- the entries that are there
+
+contains_there : (e : Entry) (ys : List Entry) (x : Entry) → Contains ys x → Contains (e ∷ ys) x
+contains_there e ys x c = (suc c.0, let inside = c.1 in omega (arith, inside), c.2)
+
+contains_insert : (xs : List Entry) (p : ℕ) (e x : Entry) → Contains xs x → Contains (insert xs p e) x
+contains_insert xs p e x c = ⊎_elim
+    (λ (lower : Contains (take p xs) x). Contains-append_left (take p xs) (e ∷ drop p xs) x lower)
+    (λ (upper : Contains (drop p xs) x). Contains-append_right (take p xs) (e ∷ drop p xs) x (contains_there e (drop p xs) x upper))
+    (Contains-append_cases (take p xs) (drop p xs) x (subst (λ (ys : List Entry). Contains ys x) (sym (take-append-drop p xs)) c))
+
+pub contains_new : (xs : List Entry) (p : ℕ) (e : Entry) → Contains (insert xs p e) e
+contains_new xs p e = Contains-append_right (take p xs) (e ∷ drop p xs) e (0, omega arith, refl)
+
+pub kept_insert : (xs : List Entry) (p : ℕ) (e : Entry) → All (Contains (insert xs p e)) xs
+kept_insert xs p e k d h = contains_insert xs p e (get_or xs k d) (Contains-get_or xs k d h)

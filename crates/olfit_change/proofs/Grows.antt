@@ -3,7 +3,7 @@ use Rattle.std.proofs.Common.{◌≡◌, ℕ, zero, suc, append-nil, ◌+◌, �
 use Rattle.std.specs.Option.{ForSome}
 use Rattle.std.proofs.lemmas.List.Elements.{All-cons}
 use Rattle.olfit_nodes.specs.declared.head.Link.{Link}
-use Rattle.olfit_nodes.specs.Nodes.{Entry, entries_of, count_of, level_of, low_of, right_of, Rises}
+use Rattle.olfit_nodes.specs.Nodes.{Entry, entries_of, count_of, level_of, low_of, right_of, IsClear, Rises}
 use Rattle.olfit_nodes.proofs.Places.{length-entries}
 use Rattle.olfit_rule.specs.declared.view.Moment.{Moment}
 use Rattle.olfit_rule.specs.declared.view.View.{View}
@@ -11,7 +11,7 @@ use Rattle.olfit_rule.specs.Tree.{node_of, low, Good, Lasts, IsAt, IsInner}
 use Rattle.olfit_rule.specs.Rule.{rewritten, after_root, after_rewrite}
 use Rattle.olfit_change.specs.States.{IsFreeFrom, IsGrown}
 use Rattle.olfit_change.proofs.Weights.{weights_light}
-use Rattle.olfit_change.proofs.Rewrites.{node_there, low_here, right_here, entries_here, level_here, version_here, size}
+use Rattle.olfit_change.proofs.Rewrites.{clear_here, node_there, low_here, right_here, entries_here, level_here, version_here, size}
 use Rattle.olfit_change.proofs.Fills.{good_filled, lasts_filled, levels_filled, at_before}
 use Rattle.olfit_change.proofs.Roots.{good_rooted, lasts_rooted, levels_rooted}
 
@@ -94,14 +94,18 @@ module _ (v : View) (top fresh : ℕ) (link : Link) (ws : List ℕ) (good : Good
   pub lasts_topped : Lasts u (after_root fresh u)
   lasts_topped = lasts_rooted v.base u fresh top good_grown within1 unlinked1 highest height1
 
-  pub grown_done : (w : View) → w ≡ record (after_rewrite fresh ws [] v) { seen = after_root fresh u } → 0 < length ws → IsGrown top fresh v w
-  grown_done w view long = subst (IsGrown top fresh v) (sym view) record {
+  pub grown_done : (w : View) → w ≡ record (after_rewrite fresh ws [] v) { seen = after_root fresh u } → 0 < length ws → IsClear ws → IsGrown top fresh v w
+  grown_done w view long clear = subst (IsGrown top fresh v) (sym view) record {
     base = refl;
     log = append-nil v.seen.log;
     levels = levels_rooted v.base u fresh top good_grown within1 unlinked1 highest height1 ∙ ap (λ (xs : List ℕ). set xs fresh (top + 2)) (levels_filled v.base v.seen fresh ws good within unlinked no_right);
     root = refl;
     right = right_here v.seen fresh ws [] within ∙ rights;
+    clear = clear_here v.seen fresh ws [] within clear;
     others = λ i not. node_there v.seen fresh ws [] within i not;
     lighter = let a = weights_light v.seen fresh ws [] within (let n = length-entries ws in let two' : length (entries_of ws) ≡ 2 = ap length entries in omega (arith, n, two')) in omega (arith, a);
     version = version_here v.seen fresh ws [] within long;
   }
+
+  pub over_both : (w : View) → w ≡ record (after_rewrite fresh ws [] v) { seen = after_root fresh u } → entries_of (node_of w.seen.image fresh) ≡ two
+  over_both w view = ap (λ (x : View). entries_of (node_of x.seen.image fresh)) view ∙ entries1

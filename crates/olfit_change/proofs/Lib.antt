@@ -6,6 +6,7 @@ pub mod Founds
 pub mod Grows
 pub mod Histories
 pub mod Kept
+pub mod Leaves
 pub mod Links
 pub mod Needed
 pub mod Parents
@@ -14,5 +15,6 @@ pub mod Ready
 pub mod Rewrites
 pub mod Roots
 pub mod Splits
+pub mod Told
 pub mod Weights
 pub mod Words

@@ -10,7 +10,7 @@ use Rattle.olfit_rule.specs.declared.view.View.{View}
 use Rattle.olfit_rule.specs.Maps.{map_of}
 use Rattle.olfit_rule.specs.Tree.{node_of, low, version, Good, IsAt, Covers}
 use Rattle.olfit_change.specs.Room.{IsFullBetween, HasRoomAt, NeedsFrom}
-use Rattle.olfit_change.specs.States.{IsFreeFrom, HasLowVersions, IsChangedAt, IsSplitAt, IsGrown, IsLinking, SameFrom}
+use Rattle.olfit_change.specs.States.{IsFreeFrom, IsToldOf, IsClean, HasLowVersions, IsChangedAt, IsSplitAt, IsGrown, IsLinking, SameFrom}
 use Rattle.olfit_change.proofs.Kept.{covers_by}
 use Rattle.olfit_change.proofs.Parents.{parent_has, fresh_above}
 
@@ -45,7 +45,7 @@ module _ (v w : View) (node : ℕ) (changes : List Change) (c : IsChangedAt node
 
 module _ (v w : View) (level node : ℕ) (link : Link) (changes : List Change) (s : IsSplitAt node link changes v w) (good : Good v.base v.seen) (at : IsAt v.seen level node)
     (free : IsFreeFrom link.node v.seen) (within : link.node < length v.seen.image) (size : length w.seen.image ≡ length v.seen.image) where
-  old : (l j : ℕ) → IsAt v.seen l j → j ≢ link.node
+  pub old : (l j : ℕ) → IsAt v.seen l j → j ≢ link.node
   old l j h e = let x = free.linked l j h in omega (arith, x, e)
 
   pub split_on : (l j : ℕ) → IsAt v.seen l j → IsAt w.seen l j
@@ -54,7 +54,7 @@ module _ (v w : View) (level node : ℕ) (link : Link) (changes : List Change) (
     ap (λ (xs : List ℕ). slice_index xs j) s.levels ∙ (get_or-set_other v.seen.levels link.node j (slice_index v.seen.levels node) 0 (old l j h) ∙ h.1),
   )
 
-  split_back : (l j : ℕ) → j ≢ link.node → IsAt w.seen l j → IsAt v.seen l j
+  pub split_back : (l j : ℕ) → j ≢ link.node → IsAt w.seen l j → IsAt v.seen l j
   split_back l j not h = (
     subst (λ (z : ℕ). j < z) size h.0,
     sym (ap (λ (xs : List ℕ). slice_index xs j) s.levels ∙ get_or-set_other v.seen.levels link.node j (slice_index v.seen.levels node) 0 not) ∙ h.1,
@@ -69,7 +69,7 @@ module _ (v w : View) (level node : ℕ) (link : Link) (changes : List Change) (
   new_level : (l j : ℕ) → j ≡ link.node → IsAt w.seen l j → level ≡ l
   new_level l j is h = let a = split_new.1 in let b = h.1 in let c = ap (λ (k : ℕ). slice_index w.seen.levels k) is in omega (arith, a, b, c)
 
-  old_level : (l j : ℕ) → j ≡ node → IsAt v.seen l j → level ≡ l
+  pub old_level : (l j : ℕ) → j ≡ node → IsAt v.seen l j → level ≡ l
   old_level l j is h = let a = at.1 in let b = h.1 in let c = ap (λ (k : ℕ). slice_index v.seen.levels k) is in omega (arith, a, b, c)
 
   upper_back : (l j : ℕ) → level + 1 ≤ l → IsAt w.seen l j → IsAt v.seen l j
@@ -97,7 +97,8 @@ module _ (v w : View) (level node : ℕ) (link : Link) (changes : List Change) (
   }
 
   module _ (key : ℕ) (covers : Covers v.seen node key) (all : (i : ℕ) → version v.seen.image i ≤ 2 * length w.seen.log)
-      (above : (l i : ℕ) → level ≤ l → IsAt v.seen l i → version v.seen.image i + 2 ≤ 2 * length w.seen.log) where
+      (above : (l i : ℕ) → level ≤ l → IsAt v.seen l i → version v.seen.image i + 2 ≤ 2 * length w.seen.log)
+      (told : (l i : ℕ) → IsAt w.seen l i → i ≢ link.node → IsToldOf w.seen l i) (clean : IsClean w.seen) where
     low_split : HasLowVersions w.seen
     low_split i =
         let here = above level node (omega arith) at in ⊎_elim
@@ -111,6 +112,8 @@ module _ (v w : View) (level node : ℕ) (link : Link) (changes : List Change) (
     pub linking : IsLinking (level + 1) key link (link.node + 1) w.seen
     linking = record {
       free = free_split;
+      told = told;
+      clean = clean;
       versions = low_split;
       above = λ l i high h. let h' = upper_back l i high h in let e = ap first_word (upper_words l i high h') in let a = above l i (omega (arith, high)) h' in omega (arith, e, a);
       child = (level, refl, split_new, s.low.1);
@@ -129,7 +132,7 @@ module _ (v w : View) (top fresh : ℕ) (g : IsGrown top fresh v w) (good : Good
   pub grown_root : slice_index w.seen.levels w.seen.root ≡ top + 2
   grown_root = (λ j. slice_index (g.levels j) (g.root j)) ∙ get_or-set_same v.seen.levels fresh (top + 2) 0 (subst (λ (z : ℕ). fresh < z) (sym good.sized) within)
 
-  grown_back : (l j : ℕ) → j ≢ fresh → IsAt w.seen l j → IsAt v.seen l j
+  pub grown_back : (l j : ℕ) → j ≢ fresh → IsAt w.seen l j → IsAt v.seen l j
   grown_back l j not h = (
     subst (λ (z : ℕ). j < z) size h.0,
     sym (ap (λ (xs : List ℕ). slice_index xs j) g.levels ∙ get_or-set_other v.seen.levels fresh j (top + 2) 0 not) ∙ h.1,

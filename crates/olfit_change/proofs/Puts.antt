@@ -1,8 +1,8 @@
 -- An entry is put into a node, or taken out.
 use Rattle.std.proofs.Common.{◌≡◌, ◌≢◌, ℕ, zero, suc, append-nil, ◌+◌, ◌<◌, ◌≤◌, List, ◌∷◌, ◌++◌, [], length, get_or, Option, Some, None, refl, sym, ap, ◌∙◌, subst, arith}
-use Rattle.std.specs.List.{All, insert, remove}
+use Rattle.std.specs.List.{All, Contains, insert, remove}
 use Rattle.std.proofs.lemmas.List.Edits.{length-insert, length-remove}
-use Rattle.olfit_nodes.specs.Nodes.{Entry, entries_of, entry_at, count_of, level_of, low_of, right_of, Rises, SameFrame}
+use Rattle.olfit_nodes.specs.Nodes.{Entry, entries_of, entry_at, count_of, level_of, low_of, right_of, IsClear, Rises, SameFrame}
 use Rattle.olfit_nodes.proofs.Frames.{same_low, same_right}
 use Rattle.olfit_nodes.proofs.Places.{length-entries, get_or-entries}
 use Rattle.olfit_rule.specs.declared.view.Change.{Change}
@@ -12,7 +12,7 @@ use Rattle.olfit_rule.specs.Maps.{map_of, map_after, IsLegal}
 use Rattle.olfit_rule.specs.Tree.{node_of, low, Good, Lasts, IsAt, IsInner, Covers}
 use Rattle.olfit_rule.specs.Rule.{rewritten}
 use Rattle.olfit_change.specs.States.{MayPut}
-use Rattle.olfit_change.proofs.Entries.{place, place_most, place_some, with_key, with_other, map_insert, map_remove, map_some, rises_insert, all_insert, all_remove, first_insert, first_weaker}
+use Rattle.olfit_change.proofs.Entries.{place, place_most, place_some, with_key, with_other, map_insert, map_remove, map_some, rises_insert, all_insert, all_remove, first_insert, first_weaker, kept_insert}
 use Rattle.olfit_change.proofs.Histories.{after_one, legal_one}
 use Rattle.olfit_change.proofs.Kept.{says_same}
 use Rattle.olfit_change.proofs.Rewrites.{good_replaced, lasts_replaced, levels_same}
@@ -172,6 +172,9 @@ pub record Replaces (v : View) (node : ℕ) (new : List ℕ) (changes : List Cha
   pub lasts : Lasts v.seen (rewritten node new changes v.seen)
   pub levels : (rewritten node new changes v.seen).levels ≡ v.seen.levels
   pub right : right_of new ≡ right_of (node_of v.seen.image node)
+  pub low : low_of new ≡ low v.seen node
+  pub kept : (below : ℕ) → IsAt v.seen (below + 1) node → All (Contains (entries_of new)) (entries_of (node_of v.seen.image node))
+  pub clear : IsClear (node_of v.seen.image node) → IsClear new
 
 pub puts : (v : View) (changes : List Change) (node key value : ℕ) (ws new : List ℕ) (p : ℕ) → Good v.base v.seen → MayPut changes node key value v → ws ≡ node_of v.seen.image node → p ≡ place key (entries_of ws)
     → SameFrame ws new → entries_of new ≡ insert (entries_of ws) p (key, value) → count_of ws < 16 → Replaces v node new changes
@@ -180,6 +183,9 @@ puts v changes node key value ws new p good may is at frame entries room = recor
   lasts = lasts_put v changes may.at.0 node key value good may.at.1 may new frame' entries' room';
   levels = levels_put v changes may.at.0 node key value good may.at.1 may new frame' entries' room';
   right = rights_put v changes may.at.0 node key value good may.at.1 may new frame' entries' room';
+  low = same_low (node_of v.seen.image node) new frame';
+  kept = λ below at'. subst (λ (xs : List Entry). All (Contains xs) (entries_of (node_of v.seen.image node))) (sym entries') (kept_insert (entries_of (node_of v.seen.image node)) _ (key, value));
+  clear = λ h. frame'.rest ∙ h;
 }
   where
     frame' : SameFrame (node_of v.seen.image node) new
@@ -198,6 +204,9 @@ takes v leaf p ws new changes good at is inside frame entries drops = subst (Rep
   lasts = lasts_taken v leaf p new good at inside' frame' entries';
   levels = levels_taken v leaf p new good at inside' frame' entries';
   right = rights_taken v leaf p new good at inside' frame' entries';
+  low = same_low (node_of v.seen.image leaf) new frame';
+  kept = λ below above. let a = at.1 in let b = above.1 in absurd (omega (arith, a, b));
+  clear = λ h. frame'.rest ∙ h;
 }
   where
     drops' : changes ≡ Drop (entry_at (node_of v.seen.image leaf) p).0 ∷ []

@@ -2,14 +2,15 @@
 use Rattle.std.proofs.Common.{◌≡◌, ◌∙◌, ◌≤◌, ◌<◌, ◌+◌, ℕ, List, length, length-set, refl, sym, subst, arith, ap}
 use Rattle.atomic_table.specs.Seated.{TableId}
 use Rattle.atomic_table.specs.declared.shared.Seat.{Seat}
-use Rattle.olfit_nodes.specs.Nodes.{count_of, entries_of, level_of, right_of, Rises}
+use Rattle.std.specs.List.{All, Contains}
+use Rattle.olfit_nodes.specs.Nodes.{Entry, count_of, entries_of, level_of, low_of, right_of, IsClear, Rises}
 use Rattle.olfit_rule.specs.declared.view.Change.{Change}
 use Rattle.olfit_rule.specs.declared.view.View.{View}
-use Rattle.olfit_rule.specs.Tree.{node_of, version, Good, IsAt}
+use Rattle.olfit_rule.specs.Tree.{node_of, low, version, Good, IsAt}
 use Rattle.olfit_rule.specs.Rule.{IsAtRest, IsSame, after_rewrite, after_root, rewritten}
 use Rattle.olfit_change.specs.States.{IsReady, IsChangedAt, Stays}
 use Rattle.olfit_change.proofs.Weights.{weights_set}
-use Rattle.olfit_change.proofs.Rewrites.{count_here, level_here, node_here, size, node_there, right_here, version_here}
+use Rattle.olfit_change.proofs.Rewrites.{clear_here, count_here, entries_here, level_here, low_here, node_here, size, node_there, right_here, version_here}
 
 pub ready_still : (table : TableId) (nodes : ℕ) (p q : Seat ℕ View) → IsReady table nodes p → Stays p q → IsReady table nodes q
 ready_still table nodes p q r s = record {
@@ -49,13 +50,16 @@ ready_rewritten table nodes p q node ws changes r same rest size view good = rec
 }
 
 pub changed_by : (v w : View) (node : ℕ) (ws : List ℕ) (changes : List Change) → node < length v.seen.image → 0 < length ws → w ≡ after_rewrite node ws changes v → (rewritten node ws changes v.seen).levels ≡ v.seen.levels → right_of ws ≡ right_of (node_of v.seen.image node)
-    → IsChangedAt node changes v w
-changed_by v w node ws changes within long view levels right = subst (IsChangedAt node changes v) (sym view) record {
+    → low_of ws ≡ low v.seen node → ((below : ℕ) → IsAt v.seen (below + 1) node → All (Contains (entries_of ws)) (entries_of (node_of v.seen.image node))) → (IsClear (node_of v.seen.image node) → IsClear ws) → IsChangedAt node changes v w
+changed_by v w node ws changes within long view levels right lows kept clear = subst (IsChangedAt node changes v) (sym view) record {
   base = refl;
   log = refl;
   levels = levels;
   root = refl;
+  low = low_here v.seen node ws changes within ∙ lows;
   right = right_here v.seen node ws changes within ∙ right;
+  kept = λ below at. subst (λ (xs : List Entry). All (Contains xs) (entries_of (node_of v.seen.image node))) (sym (entries_here v.seen node ws changes within)) (kept below at);
+  clear = λ h. clear_here v.seen node ws changes within (clear h);
   others = λ i not. node_there v.seen node ws changes within i not;
   version = version_here v.seen node ws changes within long;
   cost = weights_set v.seen node ws changes within;

@@ -6,14 +6,14 @@ use Rattle.std.specs.List.{All}
 use Rattle.std.proofs.lemmas.Bool.{cases_eq}
 use Rattle.std.proofs.lemmas.List.{set-get_or}
 use Rattle.olfit_nodes.specs.declared.head.Link.{Link}
-use Rattle.olfit_nodes.specs.Nodes.{Entry, entries_of, count_of, level_of, low_of, right_of, Rises}
+use Rattle.olfit_nodes.specs.Nodes.{Entry, entries_of, count_of, level_of, low_of, right_of, IsClear, Rises}
 use Rattle.olfit_rule.specs.declared.view.Change.{Change}
 use Rattle.olfit_rule.specs.declared.view.Moment.{Moment}
 use Rattle.olfit_rule.specs.Maps.{map_of, map_after, IsLegal}
 use Rattle.olfit_rule.specs.Tree.{node_of, low, version, Good, Lasts, IsAt, IsInner, IsNode, Covers, linked_to}
 use Rattle.olfit_rule.specs.Rule.{renewed, rewritten}
 use Rattle.olfit_rule.proofs.Keeps.{node_else}
-use Rattle.olfit_change.proofs.Words.{low_renewed, right_renewed, entries_renewed, count_renewed, level_renewed}
+use Rattle.olfit_change.proofs.Words.{clear_renewed, low_renewed, right_renewed, entries_renewed, count_renewed, level_renewed}
 use Rattle.olfit_change.proofs.Kept.{covers_by, inner_on, right_on, node_kept, RightOf}
 
 -- what the node is afterwards
@@ -42,6 +42,9 @@ module _ (t : Moment) (i : ℕ) (ws : List ℕ) (changes : List Change) (within 
 
   pub level_here : level_of (node_of u.image i) ≡ level_of ws
   level_here = ap level_of node_here ∙ level_renewed ws _
+
+  pub clear_here : IsClear ws → IsClear (node_of u.image i)
+  clear_here clear = subst IsClear (sym node_here) (clear_renewed ws _ clear)
 
   pub version_here : 0 < length ws → version u.image i ≡ version t.image i + 2
   version_here some = ap (λ (w : List ℕ). slice_index w 0) node_here ∙ get_or-set_same ws 0 (version t.image i + 2) 0 some

@@ -2,13 +2,13 @@
 use Rattle.std.proofs.Common.{◌≡◌, ◌≢◌, ℕ, append-nil, ◌+◌, ◌<◌, ◌≤◌, List, ◌++◌, [], length, take, drop, get_or, set, Option, Some, refl, sym, ap, ◌∙◌, subst, arith, length-drop, get_or-drop}
 use Rattle.std.specs.Prelude.{slice_index, IfSome}
 use Rattle.std.specs.Option.{ForSome}
-use Rattle.std.specs.List.{All, insert}
-use Rattle.std.proofs.lemmas.List.{length-take-le}
+use Rattle.std.specs.List.{All, Contains, insert}
+use Rattle.std.proofs.lemmas.List.{length-take-le, take-append-drop}
 use Rattle.std.proofs.lemmas.List.Edits.{length-insert}
 use Rattle.std.proofs.lemmas.List.Elements.{All-take, All-drop}
 use Rattle.std.proofs.lemmas.Option.{slice_get-get_or}
 use Rattle.olfit_nodes.specs.declared.head.Link.{Link}
-use Rattle.olfit_nodes.specs.Nodes.{Entry, entries_of, count_of, level_of, low_of, right_of, Rises, SameFrame}
+use Rattle.olfit_nodes.specs.Nodes.{Entry, entries_of, count_of, level_of, low_of, right_of, IsClear, Rises, SameFrame}
 use Rattle.olfit_nodes.proofs.Frames.{same_low, same_right}
 use Rattle.olfit_nodes.proofs.Places.{length-entries}
 use Rattle.olfit_rule.specs.declared.view.Change.{Change}
@@ -18,12 +18,12 @@ use Rattle.olfit_rule.specs.Maps.{map_of, map_after, IsLegal}
 use Rattle.olfit_rule.specs.Tree.{node_of, low, Good, Lasts, IsAt, IsInner, Covers}
 use Rattle.olfit_rule.specs.Rule.{rewritten, after_rewrite}
 use Rattle.olfit_change.specs.Room.{weight}
-use Rattle.olfit_change.specs.States.{MayPut, IsSplitAt}
+use Rattle.olfit_change.specs.States.{MayPut, IsSplitAt, both_entries}
 use Rattle.olfit_change.proofs.Weights.{weights_light}
-use Rattle.olfit_change.proofs.Entries.{place, place_most, rises_take, rises_drop, map_lower, map_upper, below_cut, above_cut, first_take}
+use Rattle.olfit_change.proofs.Entries.{place, place_most, rises_take, rises_drop, map_lower, map_upper, below_cut, above_cut, first_take, contains_new, kept_insert}
 use Rattle.olfit_change.proofs.Kept.{covers_by, inner_on, says_same}
 use Rattle.olfit_change.proofs.Puts.{notes, more_rises, more_inside, more_says, more_inner}
-use Rattle.olfit_change.proofs.Rewrites.{node_there, low_here, right_here, entries_here, level_here, version_here, size}
+use Rattle.olfit_change.proofs.Rewrites.{clear_here, node_there, low_here, right_here, entries_here, level_here, version_here, size}
 use Rattle.olfit_change.proofs.Fills.{good_filled, lasts_filled, levels_filled, at_filled, at_before, words_filled, covers_before}
 use Rattle.olfit_change.proofs.Cuts.{good_cut, lasts_cut, levels_cut}
 
@@ -41,6 +41,8 @@ pub record AreHalves (old : List ℕ) (key value : ℕ) (link : Link) (new cut :
   pub cut_right : right_of cut ≡ Some link
   pub cut_level : level_of cut ≡ level_of old
   pub cut_entries : entries_of cut ≡ take 8 (with_entry old key value)
+  pub new_clear : IsClear new
+  pub cut_clear : IsClear old → IsClear cut
   pub key_is : link.key ≡ (get_or (with_entry old key value) 8 (0, 0)).0
 
 module _ (v : View) (changes : List Change) (node key value : ℕ) (link : Link) (new cut : List ℕ) (good : Good v.base v.seen) (may : MayPut changes node key value v)
@@ -212,7 +214,19 @@ module _ (v : View) (changes : List Change) (node key value : ℕ) (link : Link)
   few_cut : count_of cut ≤ 9
   few_cut = let a = length-entries cut in let b = ap length halves.cut_entries in let c = length-take-le 8 all (omega (arith, long)) in omega (arith, a, b, c)
 
-  pub split_done : 0 < length new → 0 < length cut → IsSplitAt node link changes v (after_rewrite node cut changes (after_rewrite link.node new [] v))
+  abbrev done : View
+  done = after_rewrite node cut changes (after_rewrite link.node new [] v)
+
+  both_are : both_entries done.seen node link ≡ all
+  both_are =
+      let lower = entries_here u node cut changes at1.0 ∙ halves.cut_entries in
+      let upper = ap entries_of (node_there u node cut changes at1.0 link.node apart) ∙ entries1 in
+      (λ j. lower j ++ upper j) ∙ take-append-drop 8 all
+
+  pub split_entry : Contains (both_entries done.seen node link) (key, value)
+  split_entry = subst (λ (xs : List Entry). Contains xs (key, value)) (sym both_are) (contains_new (entries_of (node_of v.seen.image node)) (place key (entries_of (node_of v.seen.image node))) (key, value))
+
+  pub split_done : 0 < length new → 0 < length cut → IsSplitAt node link changes v done
   split_done some some' = record {
     base = refl;
     log = ap (λ (l : List Change). l ++ changes) (append-nil v.seen.log);
@@ -223,6 +237,11 @@ module _ (v : View) (changes : List Change) (node key value : ℕ) (link : Link)
     above = key_above;
     low = (low_here u node cut changes at1.0 ∙ halves.cut_low, ap low_of (node_there u node cut changes at1.0 link.node apart) ∙ low1);
     right = (right_here u node cut changes at1.0 ∙ halves.cut_right, ap right_of (node_there u node cut changes at1.0 link.node apart) ∙ (right1 ∙ ap right_of same));
+    kept = subst (λ (xs : List Entry). All (Contains xs) (entries_of (node_of v.seen.image node))) (sym both_are) (kept_insert (entries_of (node_of v.seen.image node)) (place key (entries_of (node_of v.seen.image node))) (key, value));
+    clear = λ h. (
+      clear_here u node cut changes at1.0 (halves.cut_clear h),
+      subst IsClear (sym (node_there u node cut changes at1.0 link.node apart)) (clear_here v.seen link.node new [] within halves.new_clear),
+    );
     others = λ i a b. node_there u node cut changes at1.0 i a ∙ node_there v.seen link.node new [] within i b;
     lighter =
         let a = weights_light v.seen link.node new [] within few_new in
@@ -239,8 +258,9 @@ module _ (v : View) (changes : List Change) (node key value : ℕ) (link : Link)
 pub halves_are : (old ws lower new cut : List ℕ) (upper : List Entry) (p key value : ℕ) (link : Link) → ws ≡ old → p ≡ place key (entries_of ws) → SameFrame ws lower
     → entries_of lower ≡ take 8 (insert (entries_of ws) p (key, value)) → upper ≡ drop 8 (insert (entries_of ws) p (key, value)) → count_of ws ≡ 16 → link.key ≡ (get_or upper 0 (0, 0)).0
     → low_of new ≡ link.key → right_of new ≡ right_of lower → level_of new ≡ level_of lower → entries_of new ≡ upper
-    → right_of cut ≡ Some link → low_of cut ≡ low_of lower → level_of cut ≡ level_of lower → entries_of cut ≡ entries_of lower → AreHalves old key value link new cut
-halves_are old ws lower new cut upper p key value link is at frame lowers uppers full first nlow nright nlevel nentries cright clow clevel centries =
+    → right_of cut ≡ Some link → low_of cut ≡ low_of lower → level_of cut ≡ level_of lower → entries_of cut ≡ entries_of lower
+    → IsClear new → (IsClear lower → IsClear cut) → AreHalves old key value link new cut
+halves_are old ws lower new cut upper p key value link is at frame lowers uppers full first nlow nright nlevel nentries cright clow clevel centries nclear cclear =
     subst (λ (o : List ℕ). AreHalves o key value link new cut) is record {
       new_low = nlow;
       new_right = nright ∙ same_right ws lower frame;
@@ -250,6 +270,8 @@ halves_are old ws lower new cut upper p key value link is at frame lowers uppers
       cut_right = cright;
       cut_level = clevel ∙ frame.level;
       cut_entries = centries ∙ (lowers ∙ ap (λ (z : ℕ). take 8 (insert (entries_of ws) z (key, value))) at);
+      new_clear = nclear;
+      cut_clear = λ h. cclear (frame.rest ∙ h);
       key_is = first ∙ (ap (λ (xs : List Entry). (get_or xs 0 (0, 0)).0) (uppers ∙ ap (λ (z : ℕ). drop 8 (insert (entries_of ws) z (key, value))) at) ∙ ap (λ (e : Entry). e.0) (get_or-drop 8 (with_entry ws key value) 0 (0, 0)));
     }
 

@@ -6,4 +6,4 @@ mod keys;
 mod nodes;
 
 pub use descend::{nodes_needed, value_of};
-pub use keys::{put, take};
+pub use keys::{link_above, put, put_leaf, take};

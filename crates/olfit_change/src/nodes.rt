@@ -1,11 +1,13 @@
 //! One change of one node, and the split of a full one.
 ghost use Rattle.std.specs.Prelude.{◌≡◌, ◌+◌, ◌^◌, ◌<◌, ◌≤◌, [], ◌∷◌};
-ghost use Rattle.olfit_nodes.specs.Nodes.{count_of, entry_at, level_of};
+ghost use Rattle.std.specs.List.{Contains};
+ghost use Rattle.olfit_nodes.specs.Nodes.{count_of, entries_of, entry_at, level_of};
 ghost use Rattle.olfit_change.specs.Room.{weights};
 ghost use Rattle.olfit_rule.specs.declared.view.Change.TheVariants.{Drop};
 ghost use Rattle.olfit_rule.specs.Tree.{node_of, low, version, IsAt};
 ghost use Rattle.olfit_rule.specs.Rule.{IsSame};
 ghost use Rattle.olfit_change.specs.States.{IsReady, IsFreeFrom, IsChangedAt, IsSplitAt, IsGrown, MayPut};
+ghost use Rattle.olfit_change.specs.States.{both_entries};
 
 use olfit_nodes::{Link, insert_at, level, made, place_of, remove_at, right, set_right, split};
 use olfit_rule::{Hand, Noted, Words, own_root, rewrite, store_root};
@@ -29,6 +31,7 @@ pub(crate) fn put_entry<C: Noted>(
     ensures ready { IsReady shared.now.table_id nodes me.new }
     ensures same { IsSame me.old me.new }
     ensures changed { IsChangedAt node C.changes me.old.me.0 me.new.me.0 }
+    ensures entry { Contains (entries_of (node_of me.new.me.0.seen.image node)) (key, value) }
     ensures count { count_of (node_of me.new.me.0.seen.image node) ≡ count_of words + 1 }
     ensures level { level_of (node_of me.new.me.0.seen.image node) ≡ level_of words }
 {
@@ -59,6 +62,7 @@ pub(crate) fn split_node<C: Noted>(
     ensures same { IsSame me.old me.new }
     ensures link { result.node ≡ fresh }
     ensures split { IsSplitAt node result C.changes me.old.me.0 me.new.me.0 }
+    ensures entry { Contains (both_entries me.new.me.0.seen node result) (key, value) }
 {
     let place = place_of(&words, key);
     let upper = split(&mut words, place, key, value);
@@ -83,6 +87,8 @@ pub(crate) fn grow(shared: &Words, me: &mut Hand, nodes: usize, fresh: usize, to
     ensures ready { IsReady shared.now.table_id nodes me.new }
     ensures same { IsSame me.old me.new }
     ensures grown { IsGrown top fresh me.old.me.0 me.new.me.0 }
+    ensures over { entries_of (node_of me.new.me.0.seen.image fresh)
+        ≡ (0, me.old.me.0.seen.root) ∷ (link.key, link.node) ∷ [] }
 {
     let old = own_root(shared, me, nodes);
     let root = made(top + 1, 0, None, &[(0, old), (link.key, link.node as u64)]);

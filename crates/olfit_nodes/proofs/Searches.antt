@@ -1,12 +1,12 @@
 -- Look-ups in a list of entries with rising keys.
-use Rattle.std.proofs.Common.{◌≡◌, ◌≢◌, ℕ, suc, ◌+◌, ◌-◌, ◌<◌, ◌≤◌, nat_le, eqb, ltb, leb, Bool, true, false, cond, List, [], ◌∷◌, length, get_or, take, Option, Some, None, sym, refl, ap, ◌∙◌, arith, ⊎_elim, get_or-take, eq-eqb, le_refl, subst, add-zero}
+use Rattle.std.proofs.Common.{◌≡◌, ◌≢◌, ℕ, zero, suc, ◌+◌, ◌-◌, ◌<◌, ◌≤◌, nat_le, eqb, ltb, leb, Bool, true, false, cond, List, [], ◌∷◌, length, get_or, take, Option, Some, None, sym, refl, ap, ◌∙◌, arith, ⊎_elim, get_or-take, eq-eqb, le_refl, subst, add-zero}
 use Rattle.std.specs.Prelude.{slice_get}
 use Rattle.std.specs.Option.{option_map}
 use Rattle.std.specs.List.{count_by, filter, position_or_len}
 use Rattle.std.proofs.lemmas.List.{length-take-le}
 use Rattle.std.proofs.lemmas.List.Sums.{sum_by-cons, position_or_len_is, count_by-le-length}
 use Rattle.std.proofs.lemmas.Option.{slice_get-get_or}
-use Rattle.std.proofs.lemmas.Bool.{lt-ltb, ne_eqb, le-ltb, lt-leb}
+use Rattle.std.proofs.lemmas.Bool.{lt-ltb, ne_eqb, le-ltb, lt-leb, le-leb}
 use Rattle.std.proofs.lemmas.Bool.Decides.{leb_tells}
 use Rattle.olfit_nodes.specs.Nodes.{Entry, entry_at, entries_of, count_of, place_in, child_in, Rises}
 use Rattle.olfit_nodes.proofs.Places.{length-entries, get_or-entries}
@@ -45,6 +45,30 @@ none_counted key (x ∷ xs) h =
     let rest = none_counted key xs (λ i d l. h (suc i) d (omega arith)) in
     let first : key < x.0 = h 0 x (omega arith) in
     counted_first key x xs ∙ ((λ j. cond (lt-leb x.0 key first j) 1 0 + rest j) ∙ add-zero 0)
+
+-- where the first entries have keys of at most this and the next one has not, so many have them
+counted_upto : (key p : ℕ) (xs : List Entry) → Rises xs → p ≤ length xs → ((k : ℕ) (d : Entry) → k < p → (get_or xs k d).0 ≤ key) → ((d : Entry) → p < length xs → key < (get_or xs p d).0) → count_by (at_most key) xs ≡ p
+counted_upto key zero [] r most below above = refl
+counted_upto key (suc p) [] r most below above = absurd (omega arith)
+counted_upto key zero (x ∷ xs) r most below above = none_counted key (x ∷ xs) (all r)
+  where
+    all : Rises (x ∷ xs) → (i : ℕ) (d : Entry) → i < length (x ∷ xs) → key < (get_or (x ∷ xs) i d).0
+    all r zero d l = above d l
+    all r (suc i) d l = let a = above d (omega arith) in let b = r 0 (suc i) d (omega arith) l in omega (arith, a, b)
+counted_upto key (suc p) (x ∷ xs) r most below above =
+    let rest = counted_upto key p xs (rest_rises x xs r) (omega arith) (λ k d l. below (suc k) d (omega arith)) (λ d l. above d (omega arith)) in
+    counted_first key x xs ∙ ((λ j. cond (le-leb x.0 key (below 0 x (omega arith)) j) 1 0 + rest j) ∙ one_more p)
+  where
+    one_more : (p : ℕ) → 1 + p ≡ suc p
+    one_more p = omega arith
+
+pub upto_is : (words : List ℕ) (key p : ℕ) → Rises (entries_of words) → p ≤ count_of words → ((k : ℕ) → k < p → (entry_at words k).0 ≤ key) → (p < count_of words → key < (entry_at words p).0)
+    → p ≡ count_by (λ (e : Entry). nat_le e.0 key) (entries_of words)
+upto_is words key p rises most below above =
+    let n = length-entries words in
+    sym (counted_upto key p (entries_of words) rises (omega arith)
+    (λ k d l. subst (λ (e : Entry). e.0 ≤ key) (sym (get_or-entries words k d (omega arith))) (below k l))
+    (λ d l. subst (λ (e : Entry). key < e.0) (sym (get_or-entries words p d (omega arith))) (above (omega arith))))
 
 -- of rising entries those up to a key are the first ones
 filter_front : (key : ℕ) (xs : List Entry) → Rises xs → filter (at_most key) xs ≡ take (count_by (at_most key) xs) xs

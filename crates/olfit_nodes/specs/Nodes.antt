@@ -1,7 +1,7 @@
 -- The 64 words of an index node: its low key, the key and number of its right neighbour, its
 -- level and the number of its entries, and sixteen places for entries of three words each.
 use Rattle.std.specs.Prelude.{◌≡◌, ℕ, ◌+◌, ◌-◌, ◌*◌, ◌/◌, ◌%◌, ◌^◌, ◌<◌, ◌==◌, nat_le, if◌then◌else◌, Option}
-use Rattle.std.specs.Prelude.{None, Some, List, length, map, take, drop, slice_index, slice_get}
+use Rattle.std.specs.Prelude.{None, Some, List, replicate, length, map, take, drop, slice_index, slice_get}
 use Rattle.std.specs.Option.{option_map}
 use Rattle.std.specs.List.{AllPairs, filter, range_with_len}
 use Rattle.olfit_nodes.specs.declared.head.Link.{Link}
@@ -61,6 +61,10 @@ child_in key entries =
     let below =
     filter (λ (e : Entry). nat_le e.0 key) entries in option_map (λ (e : Entry). e.1)
     (slice_get below (length below - 1))
+
+-- the words behind the last place are 0
+abbrev pub IsClear : List ℕ → Type 0
+IsClear words = drop 55 words ≡ replicate 9 0
 
 -- the words that hold no entry and no number of entries are the same, and so is the level
 pub record SameFrame (old new : List ℕ) : Type 0 where

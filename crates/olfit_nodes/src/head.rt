@@ -1,7 +1,8 @@
 // What a node has beside its entries.
 ghost use Rattle.std.specs.Prelude.{◌≡◌, ◌+◌, ◌*◌, ◌/◌, ◌%◌, ◌^◌, ◌<◌, ◌≤◌, [], None, Some, length};
 ghost use Rattle.std.specs.Option.{ForSome};
-ghost use Rattle.olfit_nodes.specs.Nodes.{number_of, entries_of, level_of, low_of, right_of};
+ghost use Rattle.std.specs.Prelude.{slice_index};
+ghost use Rattle.olfit_nodes.specs.Nodes.{number_of, entries_of, level_of, low_of, right_of, IsClear};
 
 use crate::entries::insert_at;
 
@@ -15,7 +16,7 @@ pub struct Link {
 }
 
 /// The number whose halves of 64 bits these are.
-pub(crate) fn number(high: u64, low: u64) -> u128
+pub fn number(high: u64, low: u64) -> u128
     ensures { result ≡ number_of high low }
 {
     (u128::from(high) << 64) + u128::from(low)
@@ -69,6 +70,8 @@ pub fn set_right(words: &mut [u64; 64], right: Link)
     ensures low { low_of words.new ≡ low_of words.old }
     ensures level { level_of words.new ≡ level_of words.old }
     ensures entries { entries_of words.new ≡ entries_of words.old }
+    ensures version { slice_index words.new 0 ≡ slice_index words.old 0 }
+    ensures clear { IsClear words.old → IsClear words.new }
 {
     words[3] = high_half(right.key);
     words[4] = low_half(right.key);
@@ -82,6 +85,8 @@ fn empty(level: u64, low: u128) -> [u64; 64]
     ensures right { right_of result ≡ None }
     ensures level { level_of result ≡ level }
     ensures entries { entries_of result ≡ [] }
+    ensures version { slice_index result 0 ≡ 0 }
+    ensures clear { IsClear result }
 {
     let mut words = [0; 64];
     words[1] = high_half(low);
@@ -99,6 +104,8 @@ pub fn made(level: u64, low: u128, right: Option<Link>, entries: &[(u128, u64)])
     ensures right { right_of result ≡ right }
     ensures level { level_of result ≡ level }
     ensures entries { entries_of result ≡ entries.now }
+    ensures version { slice_index result 0 ≡ 0 }
+    ensures clear { IsClear result }
 {
     let mut words = linked(empty(level, low), right);
     for (place, (key, value)) in entries.iter().enumerate() {
@@ -115,6 +122,8 @@ fn linked(mut words: [u64; 64], right: Option<Link>) -> [u64; 64]
     ensures low { low_of result ≡ low_of words }
     ensures level { level_of result ≡ level_of words }
     ensures entries { entries_of result ≡ entries_of words }
+    ensures version { slice_index result 0 ≡ slice_index words 0 }
+    ensures clear { IsClear words → IsClear result }
 {
     if let Some(link) = right {
         set_right(&mut words, link);

@@ -11,4 +11,4 @@ mod entries;
 mod head;
 
 pub use entries::{child, count, entry, find, insert_at, place_of, remove_at, split};
-pub use head::{Link, level, low, made, right, set_right};
+pub use head::{Link, level, low, made, number, right, set_right};

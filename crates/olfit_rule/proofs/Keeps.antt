@@ -1,5 +1,6 @@
 -- Each step keeps the rule.
-use Rattle.std.proofs.Common.{◌≡◌, ℕ, suc, ◌+◌, ◌*◌, ◌%◌, ◌<◌, ◌≤◌, ◌≢◌, List, [], ◌∷◌, length, get_or, set, true, false, true≢false, sym, refl, ap, ◌∙◌, subst, ⊎_elim, arith, le_refl, length-set, get_or-set_other, get_or-set_same, add-zero}
+use Rattle.std.proofs.Common.{◌≡◌, ℕ, suc, ◌+◌, ◌*◌, ◌%◌, ◌<◌, ◌≤◌, ◌≢◌, List, [], ◌∷◌, length, get_or, set, true, false, true≢false, sym, refl, ap, ◌∙◌, subst, ⊎_elim, arith, le_refl, length-set, get_or-set_other, get_or-set_same, add-zero, Bool, cond, eq-eqb}
+use Rattle.std.proofs.lemmas.Bool.{ne_eqb}
 use mathlib.Core.Logic.{dite}
 use mathlib.Core.Option.{none, some}
 use native.Mathlib.Decide.{ℕ_discrete}
@@ -13,7 +14,7 @@ use Rattle.olfit_rule.specs.declared.view.Moment.{Moment}
 use Rattle.olfit_rule.specs.declared.view.View.{View}
 use Rattle.olfit_rule.specs.Maps.{StartsWith}
 use Rattle.olfit_rule.specs.Tree.{Nodes, node_of, word_of, version, Good, Lasts}
-use Rattle.olfit_rule.specs.Rule.{put, Lies, Counts, Later, Knows, Kept, reader_of, nobody, informed, Sat, Moved, Looked, looked, Peeked, peeked, own_read, found_root, stored_root, wrote, after_change, after_end, after_root, ended, Gathered}
+use Rattle.olfit_rule.specs.Rule.{put, Lies, Counts, Later, Knows, Kept, reader_of, nobody, informed, Sat, Moved, Looked, looked, Peeked, peeked, own_read, found_root, stored_root, wrote, after_change, after_end, after_root, ended}
 use Rattle.olfit_rule.proofs.Lasting.{starts_same, starts_on, later_same, later_none, later_on}
 
 abbrev pub St : Type 0
@@ -54,9 +55,9 @@ at_version s r i inside = ap (λ (z : ℕ). get_or s.words z 0) (sym (add-zero (
 -- Readers
 
 -- a reader that moves to the present moment knows what is so, and what its step tells
-moved_knows : (s : St) (r : Kept s) (id : ℕ) (v : View) (i n : ℕ) → get_elem? s.views id ≡ some v → v.writes ≡ false → 0 < length v.seen.image → n ≤ version r.nodes i
-    → Knows r.nodes r.now r.base r.writer id record v { seen = r.now; node = i; last = n } × Moved v record v { seen = r.now; node = i; last = n }
-moved_knows s r id v i n at reads there low = let mine = r.seats id v at in (
+moved_knows : (s : St) (r : Kept s) (id : ℕ) (v : View) (i n loads : ℕ) → get_elem? s.views id ≡ some v → v.writes ≡ false → 0 < length v.seen.image → n ≤ version r.nodes i
+    → Knows r.nodes r.now r.base r.writer id record v { seen = r.now; node = i; last = n; loads = loads } × Moved v record v { seen = r.now; node = i; last = n; loads = loads }
+moved_knows s r id v i n loads at reads there low = let mine = r.seats id v at in (
   record {
     own = λ h. absurd (off (sym reads ∙ h));
     built = λ _. mine.built there;
@@ -66,10 +67,10 @@ moved_knows s r id v i n at reads there low = let mine = r.seats id v at in (
   },
   record {
     writes = refl;
-    kept = (refl, refl, refl);
+    kept = (refl, refl, refl, refl);
     later = mine.later;
     told = mine.told;
-    good = subst (λ (base : List Entry). Good base r.now) (sym (mine.built there)) r.good;
+    good = subst (λ (base : List Entry). Good base r.now) (sym (mine.built there).0) r.good;
   },
 )
 
@@ -80,8 +81,8 @@ looks slots id me i inside reads s r _ at _ =
     let c = mine.later.count (omega arith) in let d = r.counts.count in
     let found : get_or s.words (i * 64) 0 ≡ version r.nodes i = at_version s r i (omega arith) in
     let n : ℕ = get_or s.words (i * 64) 0 in
-    let w : View = record v { seen = r.now; node = i; last = n } in
-    let known = moved_knows s r id v i n at reads (omega arith) (omega arith) in (
+    let w : View = record v { seen = r.now; node = i; last = n; loads = v.loads + 1 } in
+    let known = moved_knows s r id v i n (v.loads + 1) at reads (omega arith) (omega arith) in (
       w,
       keeps,
       tt,
@@ -93,6 +94,7 @@ looks slots id me i inside reads s r _ at _ =
           at = (refl, refl);
           found = λ even. let same = r.counts.unlatched i (ap (λ (z : ℕ). z % 2) (sym found) ∙ even) in
               (ap (λ (n : List ℕ). get_or n 0 0) (sym same) ∙ sym found, ap (λ (n : List ℕ). length n) (sym same) ∙ r.lies.wide i (omega arith));
+          loads = refl;
         },
       ),
     )
@@ -117,55 +119,11 @@ peeks slots id me i k at_node inside small reads s r _ at _ =
       ),
     )
 
--- what was read before stands, and one word more
-pub gathers_none : (i : ℕ) (bits : List ℕ) (v : View) → Gathered i 0 bits v v
-gathers_none i bits v = record { same = refl; later = le_refl _; found = λ _ _ _ k l. absurd (omega arith) }
-
-pub gathers_one : (i c r : ℕ) (bits : List ℕ) (v w x : View) → c < length bits → v.node ≡ i → Gathered i c bits v w → Peeked c r w x → Gathered i (c + 1) (set bits c r) v x
-gathers_one i c r bits v w x inside node g p =
-    let image : w.seen.image ≡ v.seen.image = ap (λ (u : View). u.seen.image) g.same in
-    let at : w.node ≡ i = ap (λ (u : View). u.node) g.same ∙ node in
-    let same_version : version w.seen.image w.node ≡ version v.seen.image i = λ j. version (image j) (at j) in
-    let low = g.later in let high = p.later in record {
-      same = p.same ∙ ap (λ (u : View). record u { last = x.last }) g.same;
-      later = omega arith;
-      found = λ even still first k l. let mid : w.last ≡ version v.seen.image i = omega arith in dite (ℕ_discrete k c)
-          (λ e. ap (λ (z : ℕ). get_or (set bits c r) z 0) e ∙ (get_or-set_same bits c r 0 inside
-          ∙ (p.found (ap (λ (z : ℕ). z % 2) same_version ∙ even) (still ∙ sym same_version) ∙ (λ j. word_of (image j) (at j) (sym e j)))))
-          (λ other. get_or-set_other bits c k r 0 other ∙ g.found even mid first k (omega arith));
-    }
-
 pub same_words : (a b : List ℕ) → length a ≡ length b → ((k : ℕ) → k < length a → get_or a k 0 ≡ get_or b k 0) → a ≡ b
 same_words [] [] e h = refl
 same_words [] (y ∷ ys) e h = absurd (omega arith)
 same_words (x ∷ xs) [] e h = absurd (omega arith)
 same_words (x ∷ xs) (y ∷ ys) e h = λ i. h 0 (omega arith) i ∷ same_words xs ys (omega arith) (λ k l. h (suc k) (omega arith)) i
-
--- the second load of the version
-pub checks : (slots id : ℕ) (me : Sat) (i : ℕ) → me.0.node ≡ i → i < length me.0.seen.image → me.0.writes ≡ false → Allows Kept slots id me (i * 64) (λ x. x) (peeked (step slots (i * 64) 0 0 none) me)
-checks slots id me i node inside reads = subst (λ (q : ℕ). Allows Kept slots id me q (λ x. x) (peeked (step slots q 0 0 none) me)) (add-zero (i * 64)) (peeks slots id me i 0 node inside (omega arith) reads)
-
--- between two equal loads of the version the words are those of the node at the first of them
-pub whole : (i first second : ℕ) (bits : List ℕ) (u v w x : View) → Looked i first u v → first % 2 ≡ 0 → Gathered i 64 bits v w → Peeked 0 second w x → second ≡ first → length bits ≡ 64 → bits ≡ node_of x.seen.image i
-whole i first second bits u v w x look even g p equal long =
-    let on : x ≡ record v { last = x.last } = p.same ∙ ap (λ (y : View). record y { last = x.last }) g.same in
-    let found = look.found even in let at = look.at.1 in let low = g.later in let high = p.later in let seen = p.check refl in
-    let here : version v.seen.image i ≡ first = found.0 in
-    same_words bits (node_of v.seen.image i) (long ∙ sym found.1) (λ k l. g.found (ap (λ (z : ℕ). z % 2) here ∙ even) (omega arith) (omega arith) k (omega arith)) ∙ ap (λ (y : View). node_of y.seen.image i) (sym on)
-
--- what a reader knows after the loads of a reading
-pub record Ends (i first second : ℕ) (u x : View) : Type 0 where
-  pub moved : Moved u x
-  pub node : x.node ≡ i
-  pub even : first % 2 ≡ 0 → version x.seen.image i ≡ first
-
-pub ends_reading : (u v w x : View) (i c second first k : ℕ) (bits : List ℕ) → Looked i first u v → Gathered i c bits v w → Peeked k second w x → Ends i first second u x
-ends_reading u v w x i c second first k bits look g p =
-    let on : x ≡ record v { last = x.last } = p.same ∙ ap (λ (y : View). record y { last = x.last }) g.same in record {
-      moved = subst (λ (y : View). Moved u y) (sym on) record { writes = look.moved.writes; kept = look.moved.kept; later = look.moved.later; told = look.moved.told; good = look.moved.good };
-      node = ap (λ (y : View). y.node) on ∙ look.at.0;
-      even = λ even. ap (λ (y : View). version y.seen.image i) on ∙ (look.found even).0;
-    }
 
 -- The writer
 
@@ -318,7 +276,7 @@ ends slots id me i b changes h is_writer up good lasts s r _ at _ =
       keeps,
       tt,
       subst (λ (q : ℕ). Kept (stepped s q b id me.1 w keeps)) (add-zero (i * 64)) (wrote_one s r id me.1 i 0 b v w now at is_writer h' (omega arith) refl on late (counts_end r.nodes r.now.image i b r.counts h')
-          (subst (λ (z : List Entry × Moment). Good z.0 z.1) (λ y. (known.built more y, is y)) good) record {
+          (subst (λ (z : List Entry × Moment). Good z.0 z.1) (λ y. ((known.built more).0 y, is y)) good) record {
             own = λ _. (refl, ap (λ (a : Nodes). put a i 0 b) same, is);
             built = λ _. known.built more;
             later = subst (λ (z : Moment). Later z now) (sym is) (later_same now);
@@ -328,6 +286,13 @@ ends slots id me i b changes h is_writer up good lasts s r _ at _ =
           }),
       (refl, λ j is. let e : i ≡ j = omega arith in subst (λ (z : ℕ). w ≡ after_end z b changes v) e refl),
     )
+
+-- what the writer met is of an index that was built of the same entries
+same_base : (s : St) (r : Kept s) (id : ℕ) (v : View) → get_elem? s.views id ≡ some v → v.writes ≡ true → 0 < length r.nodes → v.met ≡ v.base
+same_base s r id v at is_writer more =
+    let known = r.seats id v at in let count = r.counts.count in
+    let there : 0 < length v.seen.image = subst (λ (t : Moment). 0 < length t.image) (sym (known.own is_writer).2) (omega arith) in
+    let b = known.built there in b.1 ∙ sym b.0
 
 -- the writer loads what it left
 pub own_loads : (slots id : ℕ) (me : Sat) (i k : ℕ) → i < length me.0.words → k < 64 → me.0.writes ≡ true → Allows Kept slots id me (i * 64 + k) (λ x. x) (own_read (step slots (i * 64 + k) 0 0 none) me)
@@ -343,6 +308,7 @@ own_loads slots id me i k h small is_writer s r _ at _ =
         λ j l _ is small'. let p = one_place i k j l small small' is in r.lies.each i k h' small ∙ (λ y. word_of (sym same y) (p.0 y) (p.1 y)),
         λ is. absurd (omega arith),
         subst (λ (t : Moment). StartsWith t.log me.0.told) (sym own.2) known.told,
+        λ _. same_base s r id me.0 at is_writer (omega arith),
       ),
     )
 
@@ -360,6 +326,7 @@ own_loads_root slots id me is_writer s r _ at _ =
         λ j l inside is small'. absurd (omega arith),
         λ _. subst (λ (n : ℕ). get_or s.words (n * 64) 0 ≡ r.now.root) e r.lies.last ∙ ap (λ (t : Moment). t.root) (sym own.2),
         subst (λ (t : Moment). StartsWith t.log me.0.told) (sym own.2) known.told,
+        λ some. same_base s r id me.0 at is_writer (subst (λ (a : Nodes). 0 < length a) same some),
       ),
     )
 
@@ -384,6 +351,9 @@ joins id v other u s r at apart there =
     let w : View = informed v u in
     let known = r.seats id v at in
     let theirs = ⊎_elim (λ (t : (other ≡ id) × (w ≡ u)). absurd (apart t.0)) (λ (t : (other ≢ id) × (get_elem? s.views other ≡ some u)). r.seats other u t.1) (at_set s.views id other w u there) in
+    let met : 0 < length v.seen.image → w.met ≡ r.base = λ h. dite (ℕ_discrete (length u.seen.image) 0)
+    (λ empty. ap (λ (b : Bool). cond b v.met u.base) (eq-eqb _ 0 empty) ∙ (known.built h).1)
+    (λ full. ap (λ (b : Bool). cond b v.met u.base) (ne_eqb _ 0 full) ∙ (theirs.built (omega arith)).0) in
     let K = Knows r.nodes r.now r.base r.writer in record {
       nodes = r.nodes;
       now = r.now;
@@ -393,7 +363,7 @@ joins id v other u s r at apart there =
       counts = r.counts;
       good = r.good;
       seats = seats_stay K (set s.views id w) other nobody record { own = λ h. absurd (off h); built = λ h. absurd (omega arith); later = later_none r.now; told = (r.now.log, refl); last = omega arith }
-          (λ j x _ e. seats_stay K s.views id w record { own = known.own; built = known.built; later = known.later; told = theirs.later.begins; last = known.last } (λ i y _ e'. r.seats i y e') j x e);
+          (λ j x _ e. seats_stay K s.views id w record { own = known.own; built = λ h. ((known.built h).0, met h); later = known.later; told = theirs.later.begins; last = known.last } (λ i y _ e'. r.seats i y e') j x e);
     }
 
 -- The root word
@@ -410,8 +380,8 @@ finds_root slots id me reads s r _ at _ =
       unmoved s r q id me.1 w (r.seats id v at),
       (refl, λ _ more. absurd (omega arith)),
     ))
-    (λ full. let w : View = record v { seen = r.now; node = 0; last = 0 } in
-    let known = moved_knows s r id v 0 0 at reads (omega arith) (omega arith) in (
+    (λ full. let w : View = record v { seen = r.now; node = 0; last = 0; loads = v.loads } in
+    let known = moved_knows s r id v 0 0 v.loads at reads (omega arith) (omega arith) in (
       w,
       keeps,
       tt,
@@ -421,6 +391,7 @@ finds_root slots id me reads s r _ at _ =
         λ _ more. let c = (r.seats id v at).later.count more in let d = r.counts.count in let e : length r.nodes ≡ length v.seen.image = omega arith in record {
           moved = known.1;
           root = subst (λ (n : ℕ). get_or s.words (n * 64) 0 ≡ r.now.root) e r.lies.last;
+          loads = refl;
         },
       ),
     ))
@@ -454,7 +425,7 @@ stores_root slots id me b is_writer more good lasts s r _ at _ =
           each = λ i k h small. get_or-set_other s.words q (i * 64 + k) b 0 (λ is. omega arith) ∙ r.lies.each i k h small;
         };
         counts = r.counts;
-        good = subst (λ (z : List Entry × Moment). Good z.0 z.1) (λ y. (known.built full y, is y)) good;
+        good = subst (λ (z : List Entry × Moment). Good z.0 z.1) (λ y. ((known.built full).0 y, is y)) good;
         seats = seats_stay (Knows r.nodes now r.base r.writer) s.views id w record {
           own = λ _. (own.0, own.1, is);
           built = λ _. known.built full;

@@ -32,7 +32,7 @@ lies_open words n is =
 one_seat : (words : List ℕ) (j : ℕ) (v : View) → get_elem? (opener words ∷ []) j ≡ some v → Knows (nodes_in words) (opening_of words) (leaf_entries (nodes_in words)) 0 j v
 one_seat words zero v e = subst (Knows (nodes_in words) (opening_of words) (leaf_entries (nodes_in words)) 0 0) (some-injective _ _ e) record {
   own = λ _. (refl, refl, refl);
-  built = λ _. refl;
+  built = λ _. (refl, refl);
   later = later_same (opening_of words);
   told = ([], refl);
   last = omega arith;

@@ -1,12 +1,14 @@
 -- The rule of the table of an index, and what each step tells.
 -- The words of node i lie from i * 64 on; the word behind the last node is the number of
 -- the root. A node's word 0 is its version, which is odd while the writer changes the node.
-use Rattle.std.specs.Prelude.{◌≡◌, ◌≢◌, ℕ, ◌+◌, ◌*◌, ◌/◌, ◌%◌, ◌<◌, ◌≤◌, ◌⊎◌, List, [], ◌++◌, length, map}
+use Rattle.std.specs.Prelude.{◌≡◌, ◌≢◌, ℕ, ◌+◌, ◌*◌, ◌/◌, ◌%◌, ◌^◌, ◌<◌, ◌≤◌, ◌==◌, ◌⊎◌, if◌then◌else◌, List, []}
+use Rattle.std.specs.Prelude.{◌++◌, length, map}
 use Rattle.std.specs.Prelude.{take, drop, slice_index, slice_set, true, false}
 use mathlib.Core.Option.{some}
 use lib.ListN.{get_elem?}
 use Rattle.std.specs.List.{range_with_len}
 use Rattle.atomic_table.specs.Table.{State, Me, Step}
+use Rattle.atomic_table.specs.Seated.{TableId}
 use Rattle.atomic_table.specs.declared.shared.Seat.{Seat}
 use Rattle.olfit_nodes.specs.Nodes.{Entry, level_of}
 use Rattle.olfit_rule.specs.declared.view.Change.{Change}
@@ -49,7 +51,7 @@ pub record Later (a b : Moment) : Type 0 where
 pub record Knows (nodes : Nodes) (now : Moment) (base : List Entry) (writer seat : ℕ)
     (v : View) : Type 0 where
   pub own : v.writes ≡ true → (seat ≡ writer) × (v.words ≡ nodes) × (v.seen ≡ now)
-  pub built : 0 < length v.seen.image → v.base ≡ base
+  pub built : 0 < length v.seen.image → (v.base ≡ base) × (v.met ≡ base)
   pub later : Later v.seen now
   pub told : StartsWith now.log v.told
   pub last : v.last ≤ version nodes v.node
@@ -97,6 +99,8 @@ opener words =
       told = [];
       node = 0;
       last = 0;
+      loads = 0;
+      met = leaf_entries (nodes_in words);
     }
 
 -- the writer has nothing latched
@@ -120,7 +124,7 @@ Sat = Me ℕ View
 -- a load moves the reader to the present moment
 pub record Moved (v w : View) : Type 0 where
   pub writes : w.writes ≡ v.writes
-  pub kept : (w.words ≡ v.words) × (w.told ≡ v.told) × (w.base ≡ v.base)
+  pub kept : (w.words ≡ v.words) × (w.told ≡ v.told) × (w.base ≡ v.base) × (w.met ≡ v.met)
   pub later : Later v.seen w.seen
   pub told : StartsWith w.seen.log v.told
   pub good : Good w.base w.seen
@@ -131,6 +135,7 @@ pub record Looked (i r : ℕ) (v w : View) : Type 0 where
   pub moved : Moved v w
   pub at : (w.node ≡ i) × (w.last ≡ r)
   pub found : r % 2 ≡ 0 → (version w.seen.image i ≡ r) × (length (node_of w.seen.image i) ≡ 64)
+  pub loads : w.loads ≡ v.loads + 1
 
 abbrev pub looked : Step ℕ → Sat → ℕ → Sat → Type 0
 looked st m r m' =
@@ -140,6 +145,7 @@ looked st m r m' =
 pub record FoundRoot (r : ℕ) (v w : View) : Type 0 where
   pub moved : Moved v w
   pub root : r ≡ w.seen.root
+  pub loads : w.loads ≡ v.loads
 
 abbrev pub found_root : Step ℕ → Sat → ℕ → Sat → Type 0
 found_root st m r m' =
@@ -157,19 +163,13 @@ pub record Peeked (k r : ℕ) (v w : View) : Type 0 where
 abbrev pub peeked : Step ℕ → Sat → ℕ → Sat → Type 0
 peeked st m r m' = (m'.1 ≡ m.1) × ((k : ℕ) → st.word ≡ m.0.node * 64 + k → k < 64 → Peeked k r m.0 m'.0)
 
--- the first count words of node i were read: if the version is
--- still the one that was seen first, they are those that were seen
-pub record Gathered (i count : ℕ) (bits : List ℕ) (v w : View) : Type 0 where
-  pub same : w ≡ record v { last = w.last }
-  pub later : v.last ≤ w.last
-  pub found : version v.seen.image i % 2 ≡ 0 → w.last ≡ version v.seen.image i
-      → v.last ≡ version v.seen.image i → (k : ℕ) → k < count → slice_index bits k ≡ word_of v.seen.image i k
-
--- the writer loads a word as it left it, and what it was told begins its changes
+-- The writer loads a word as it left it. What it was told begins its changes,
+-- and the seat that it met is of an index that was built of the same entries.
 abbrev pub own_read : Step ℕ → Sat → ℕ → Sat → Type 0
 own_read st m r m' =
     (m' ≡ m) × ((i k : ℕ) → i < length m.0.words → st.word ≡ i * 64 + k → k < 64 → r ≡ word_of m.0.words i k)
     × (st.word ≡ length m.0.words * 64 → r ≡ m.0.seen.root) × StartsWith m.0.seen.log m.0.told
+    × (0 < length m.0.words → m.0.met ≡ m.0.base)
 
 -- the writer stores a word
 abbrev pub wrote : Step ℕ → Sat → ℕ → Sat → Type 0
@@ -217,18 +217,41 @@ stored_root st m r m' =
 -- what a new reader knows
 abbrev pub reader_of : View → View
 reader_of v =
-    record { writes = false; words = []; base = v.base; seen = v.seen; told = v.told; node = 0; last = 0 }
+    record {
+      writes = false;
+      words = [];
+      base = v.base;
+      seen = v.seen;
+      told = v.told;
+      node = 0;
+      last = 0;
+      loads = 0;
+      met = v.met;
+    }
 
 abbrev pub no_moment : Moment
 no_moment = record { image = []; levels = []; root = 0; log = [] }
 
 -- what a seat knows that another one has taken in
 abbrev pub nobody : View
-nobody = record { writes = false; words = []; base = []; seen = no_moment; told = []; node = 0; last = 0 }
+nobody =
+    record {
+      writes = false;
+      words = [];
+      base = [];
+      seen = no_moment;
+      told = [];
+      node = 0;
+      last = 0;
+      loads = 0;
+      met = [];
+    }
 
--- a seat is told of the changes that another one has seen
+-- a seat is told of the changes that another one has seen, and,
+-- where that one has seen nodes, of which entries they were built
 abbrev pub informed : View → View → View
-informed v w = record v { told = w.seen.log }
+informed v w =
+    record v { told = w.seen.log; met = if length w.seen.image == 0 then v.met else w.base }
 
 -- What functions do
 
@@ -246,6 +269,34 @@ pub record Follows (p q : Seat ℕ View) : Type 0 where
   pub later : Later p.me.0.seen q.me.0.seen
   pub told : StartsWith q.me.0.seen.log p.me.0.told
   pub kept : q.me.0.told ≡ p.me.0.told
+  pub loads : p.me.0.loads ≤ q.me.0.loads
+
+-- the version of a node was loaded, once more than before
+pub record HasBegun (node first : ℕ) (v w : View) : Type 0 where
+  pub at : (w.node ≡ node) × (w.last ≡ first)
+  pub even : first % 2 ≡ 0 → version w.seen.image node ≡ first
+  pub loads : w.loads ≡ v.loads + 1
+
+-- A node is being read: a reader has loaded its version, and that is even, so it is
+-- the one with which the node counts at the moment that was seen.
+pub record IsReading (table : TableId) (node first : ℕ) (p : Seat ℕ View) : Type 0 where
+  pub table_is : p.table_id ≡ table
+  pub inside : (node * 64 + 64 ≤ table.words) × (node < 2 ^ 32)
+  pub reads : p.me.0.writes ≡ false
+  pub at : (p.me.0.node ≡ node) × (node < length p.me.0.seen.image)
+  pub even : (first % 2 ≡ 0) × (version p.me.0.seen.image node ≡ first)
+  pub wide : length (node_of p.me.0.seen.image node) ≡ 64
+  pub since : first ≤ p.me.0.last
+
+-- words of the node were loaded, which changes nothing but the version found last: it doesn't fall
+pub record Peeks (p q : Seat ℕ View) : Type 0 where
+  pub same : IsSame p q
+  pub view : q.me.0 ≡ record p.me.0 { last = q.me.0.last }
+  pub later : p.me.0.last ≤ q.me.0.last
+
+-- the version found last is still that of the node at the moment that was seen
+abbrev pub IsStill : View → Type 0
+IsStill v = v.last ≡ version v.seen.image v.node
 
 -- a reader can read this node
 pub record CanRead (node : ℕ) (v : View) : Type 0 where

@@ -13,6 +13,6 @@ mod writer;
 
 pub use open::{Memory, opened};
 pub use plays::Noted;
-pub use steps::{Read, agree, find_root, meet, read_node, reader};
+pub use steps::{Read, agree, begin, find_root, meet, peek, read_node, reader};
 pub use view::{Change, Hand, Moment, Protocol, View, Words};
 pub use writer::{own_node, own_root, rewrite, store_root};

@@ -1,8 +1,9 @@
 //! The steps of readers.
-ghost use Rattle.std.specs.Prelude.{◌≡◌, ◌+◌, ◌*◌, ◌^◌, ◌%◌, ◌<◌, ◌≤◌, length, [], true, false};
+ghost use Rattle.std.specs.Prelude.{◌≡◌, ℕ, ◌+◌, ◌*◌, ◌^◌, ◌%◌, ◌<◌, ◌≤◌, length, [], true, false};
 ghost use Rattle.olfit_rule.specs.Maps.{StartsWith};
-ghost use Rattle.olfit_rule.specs.Tree.{Good};
-ghost use Rattle.olfit_rule.specs.Rule.{CanRead, Follows, Gathered, IsRead, IsSame, reader_of, informed};
+ghost use Rattle.olfit_rule.specs.Tree.{Good, node_of, word_of};
+ghost use Rattle.olfit_rule.specs.Rule.{CanRead, Follows, HasBegun, IsReading, IsRead, IsSame, IsStill};
+ghost use Rattle.olfit_rule.specs.Rule.{Peeks, reader_of, informed};
 
 use crate::plays::{FindRoot, Look, Own, Peek, Reads, Tells};
 use crate::view::{Hand, Words};
@@ -21,15 +22,42 @@ pub enum Read {
     },
 }
 
-fn gather(shared: &Words, me: &mut Hand, node: usize, into: &mut [u64; 64])
+/// Begins to read a node: loads its version. Where that is odd, the node is latched.
+pub fn begin(shared: &Words, me: &mut Hand, node: usize) -> u64
     requires own { me.old.table_id ≡ shared.now.table_id }
     requires inside { (node * 64 + 64 ≤ shared.now.table_id.words) × (node < 2 ^ 32) }
-    requires known { CanRead node me.old.me.0 × (me.old.me.0.node ≡ node) }
-    ensures same { IsSame me.old me.new }
-    ensures words { Gathered node 64 into.new me.old.me.0 me.new.me.0 }
+    requires known { CanRead node me.old.me.0 }
+    ensures seat { Follows me.old me.new }
+    ensures good { Good me.new.me.0.base me.new.me.0.seen }
+    ensures begun { HasBegun node result me.old.me.0 me.new.me.0 }
+    ensures reading { result % 2 ≡ 0 → IsReading shared.now.table_id node result me.new }
+{
+    shared.load::<Look>(me, node * 64)
+}
+
+/// Loads a word of the node that is being read.
+pub fn peek(shared: &Words, me: &mut Hand, node: usize, word: usize) -> u64
+    requires reading { (first : ℕ) × IsReading shared.now.table_id node first me.old }
+    requires inside { word < 64 }
+    ensures peeks { Peeks me.old me.new }
+    ensures reading { (first : ℕ) → IsReading shared.now.table_id node first me.old
+        → IsReading shared.now.table_id node first me.new }
+    ensures word { IsStill me.new.me.0 → result ≡ word_of me.old.me.0.seen.image node word }
+    ensures version { word ≡ 0 → result ≡ me.new.me.0.last }
+{
+    shared.load::<Peek>(me, node * 64 + word)
+}
+
+/// Loads the words of the node that is being read.
+fn gather(shared: &Words, me: &mut Hand, node: usize, into: &mut [u64; 64])
+    requires reading { (first : ℕ) × IsReading shared.now.table_id node first me.old }
+    ensures peeks { Peeks me.old me.new }
+    ensures reading { (first : ℕ) → IsReading shared.now.table_id node first me.old
+        → IsReading shared.now.table_id node first me.new }
+    ensures words { IsStill me.new.me.0 → into.new ≡ node_of me.old.me.0.seen.image node }
 {
     for i in 0..64 {
-        into[i] = shared.load::<Peek>(me, node * 64 + i);
+        into[i] = peek(shared, me, node, i);
     }
 }
 
@@ -40,9 +68,10 @@ pub fn read_node(shared: &Words, me: &mut Hand, node: usize, into: &mut [u64; 64
     requires known { CanRead node me.old.me.0 }
     ensures seat { Follows me.old me.new }
     ensures good { Good me.new.me.0.base me.new.me.0.seen }
+    ensures loads { me.new.me.0.loads ≡ me.old.me.0.loads + 1 }
     ensures read { IsRead node into.new result me.new.me.0 }
 {
-    let first = shared.load::<Look>(me, node * 64);
+    let first = begin(shared, me, node);
     if first % 2 == 1 {
         return Read::Again {
             first,
@@ -50,7 +79,7 @@ pub fn read_node(shared: &Words, me: &mut Hand, node: usize, into: &mut [u64; 64
         };
     }
     gather(shared, me, node, into);
-    let second = shared.load::<Peek>(me, node * 64);
+    let second = peek(shared, me, node, 0);
     if second != first {
         return Read::Again { first, second };
     }
@@ -90,7 +119,8 @@ pub fn meet(shared: &Words, writer: &mut Hand, me: &mut Hand)
     shared.join_seat::<Tells>(me, note);
 }
 
-/// The writer learns that all which the reader has seen are first changes of its own.
+/// The writer learns that all which the reader has seen are first changes of its own, of an index that was
+/// built of the same entries.
 pub fn agree(shared: &Words, writer: &mut Hand, me: &mut Hand)
     requires own { (writer.old.table_id ≡ shared.now.table_id) × (me.old.table_id ≡ shared.now.table_id)
         × (writer.old.me.0.writes ≡ true) }
@@ -98,6 +128,7 @@ pub fn agree(shared: &Words, writer: &mut Hand, me: &mut Hand)
     ensures writer { IsSame writer.old writer.new × (writer.new.me.0 ≡ informed writer.old.me.0 me.old.me.0) }
     ensures me { IsSame me.old me.new × (me.new.me.0 ≡ me.old.me.0) }
     ensures agree { StartsWith writer.new.me.0.seen.log me.new.me.0.seen.log }
+    ensures base { 0 < length me.old.me.0.seen.image → me.old.me.0.base ≡ writer.old.me.0.base }
 {
     let note = shared.split_seat::<Reads>(me);
     shared.join_seat::<Tells>(writer, note);

@@ -38,6 +38,10 @@ pub struct View {
     pub node: u64,
     /// The version that it found there last.
     pub last: u64,
+    /// How often it began to read a node: loaded a version for a first time.
+    pub loads: u64,
+    /// The entries of which the index was built, as the seat says that it met last.
+    pub met: LinkedList<(u128, u64)>,
 }
 
 /// The rule of the table. Its key is the words at the opening.

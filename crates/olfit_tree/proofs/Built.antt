@@ -1,16 +1,20 @@
 -- A tree level by level: what its nodes are.
-use Rattle.std.proofs.Common.{◌≡◌, ◌≢◌, ◌⊎◌, ℕ, zero, suc, ◌+◌, ◌-◌, ◌*◌, ◌<◌, ◌≤◌, Bool, cond, eqb, List, [], ◌∷◌, length, take, drop, IsSome, refl, sym, ap, ◌∙◌, subst, arith, inl, inr, ⊎_elim, eq-eqb}
+use Rattle.std.proofs.Common.{◌≡◌, ◌≢◌, ◌⊎◌, ℕ, zero, suc, ◌+◌, ◌-◌, ◌*◌, ◌<◌, ◌≤◌, Bool, cond, eqb, List, [], ◌∷◌, length, take, drop, get_or, IsSome, Some, None, refl, sym, ap, ◌∙◌, subst, arith, inl, inr, ⊎_elim, eq-eqb}
 use Rattle.std.proofs.Math.Nat.{mul-le-mul_right}
 use Rattle.std.proofs.lemmas.Bool.{cases_eq, cases_lt, ne_eqb, true≢false}
 use Rattle.std.proofs.lemmas.List.{drop_all, take_all}
-use Rattle.olfit_nodes.specs.Nodes.{Entry, count_of, entries_of, level_of, right_of, Rises}
+use Rattle.std.specs.List.{Contains}
+use Rattle.olfit_nodes.specs.declared.head.Link.{Link}
+use Rattle.olfit_nodes.specs.Nodes.{Entry, count_of, entries_of, level_of, right_of, IsClear, Rises}
 use Rattle.olfit_rule.specs.declared.view.Moment.{Moment}
 use Rattle.olfit_rule.specs.Tree.{node_of, low, version, Covers, IsAt, IsNode}
 use Rattle.olfit_rule.specs.Rule.{nodes_in, opening_of}
-use Rattle.olfit_tree.specs.Build.{ArePieces, IsTree, level_nodes, right_at}
-use Rattle.olfit_tree.proofs.Levels.{LeadBelow, count_is, lead_rises, leads_below, one_covers, row_at, row_node}
+use Rattle.olfit_tree.specs.Build.{ArePieces, IsTree, leads, level_nodes, low_at, nodes_at, right_at}
+use Rattle.olfit_change.specs.States.{HasEntryAbove}
+use Rattle.olfit_tree.proofs.Growing.{length-leads}
+use Rattle.olfit_tree.proofs.Levels.{LeadBelow, count_is, entry_in, lead_is, lead_rises, leads_below, one_covers, row_at, row_node}
 use Rattle.olfit_tree.proofs.Rows.{low_zero}
-use Rattle.olfit_tree.proofs.Sizes.{covers, level_some}
+use Rattle.olfit_tree.proofs.Sizes.{begins, covers, goes_on, level_some}
 
 -- the entries of a leaf, and none of another node
 abbrev pub leaf_part : List ℕ → List Entry
@@ -45,6 +49,11 @@ module _ (words : List ℕ) (rows : List Entry) (each : ℕ) where
     pub alone : (l i j q : ℕ) → i < j → j < first → IsAt t l i → IsAt t l j → Covers t i q → Covers t j q → ⊥
     pub leafy : (i : ℕ) → i < first → leaf_part (node_of ns i) ≡ take each (drop (i * each) rows)
     pub inner : (l i : ℕ) → i < first → IsAt t (l + 1) i → IsSome (right_of (node_of ns i)) → count_of (node_of ns i) ≡ 16
+    pub wide : level_nodes (length es) size ≡ nodes_at (length rows) each level
+    pub under : (below : ℕ) → level ≡ below + 1 → length es ≡ nodes_at (length rows) each below
+    pub last : (l i : ℕ) → i < first → IsAt t (l + 1) i → right_of (node_of ns i) ≡ None → 16 * (nodes_at (length rows) each (l + 1) - 1) + count_of (node_of ns i) ≡ nodes_at (length rows) each l
+    pub told : (l i : ℕ) → i < first → IsAt t l i → HasEntryAbove t l i
+    pub clear : (i : ℕ) → i < first → IsClear (node_of ns i)
     pub zeroth : (0 < first) → IsAt t 0 0 × (low t 0 ≡ 0)
     pub deep : level ≤ first
 
@@ -144,6 +153,34 @@ module _ (words : List ℕ) (rows : List Entry) (each : ℕ) where
             let c = count_is words level first size es b.sizes b.rises room b.some b.pieces k hk in
             let w = within es (k * size + size) (first + k + 1) (subst IsSome (b.pieces k hk).right s) in omega (arith, tall, c, w)
 
+    pub all_clear : (i : ℕ) → i < first + n → IsClear (node_of ns i)
+    all_clear i h = split (λ (x : ℕ). IsClear (node_of ns x)) i h (b.clear i) (λ k hk. (b.pieces k hk).clear)
+
+    pub all_last : (l i : ℕ) → i < first + n → IsAt t (l + 1) i → right_of (node_of ns i) ≡ None → 16 * (nodes_at (length rows) each (l + 1) - 1) + count_of (node_of ns i) ≡ nodes_at (length rows) each l
+    all_last l i h = split (λ (x : ℕ). IsAt t (l + 1) x → right_of (node_of ns x) ≡ None → 16 * (nodes_at (length rows) each (l + 1) - 1) + count_of (node_of ns x) ≡ nodes_at (length rows) each l) i h (b.last l i) row
+      where
+        lost : (link : Link) → Some link ≡ None → ⊥
+        lost link c = cc
+
+        beyond : (xs : List Entry) (p next : ℕ) → right_at xs p next ≡ None → length xs ≤ p
+        beyond [] p next e = omega arith
+        beyond (x ∷ xs) zero next e = absurd (lost _ e)
+        beyond (x ∷ xs) (suc p) next e = let r = beyond xs p next e in omega (arith, r)
+
+        row : (k : ℕ) → k < n → IsAt t (l + 1) (first + k) → right_of (node_of ns (first + k)) ≡ None → 16 * (nodes_at (length rows) each (l + 1) - 1) + count_of (node_of ns (first + k)) ≡ nodes_at (length rows) each l
+        row k hk a none =
+            let e = level_is (l + 1) k hk a in
+            let tall = (b.tall (λ z. omega (arith, e, z))).0 in
+            let c = count_is words level first size es b.sizes b.rises room b.some b.pieces k hk in
+            let end = beyond es (k * size + size) (first + k + 1) (sym (b.pieces k hk).right ∙ none) in
+            let wide : n ≡ nodes_at (length rows) each (l + 1) = subst (λ (m : ℕ). n ≡ nodes_at (length rows) each m) (sym e) b.wide in
+            let under = b.under l (sym e) in
+            let times : k * size ≡ 16 * k = (let e : k * 16 ≡ 16 * k = omega arith in ap (λ (z : ℕ). k * z) tall ∙ e) in
+            let start : k * size ≤ length es = ⊎_elim (λ (z : k ≡ 0). omega (arith, z, times)) (λ (less : k * size < length es). omega (arith, less)) (begins (length es) size b.sizes k hk) in ⊎_elim
+            (λ (more : k + 1 < n). let on = goes_on (length es) size b.sizes k more in absurd (omega (arith, on, end)))
+            (λ (done : n ≤ k + 1). omega (arith, done, hk, c, end, start, times, tall, wide, under))
+            (cases_lt (k + 1) n)
+
     pub all_zeroth : IsAt t 0 0 × (low t 0 ≡ 0)
     all_zeroth = ⊎_elim
         (λ (z : first ≡ 0). ⊎_elim
@@ -158,6 +195,22 @@ module _ (words : List ℕ) (rows : List Entry) (each : ℕ) where
       where
         none_of_it : (m : ℕ) → 0 * m ≡ 0
         none_of_it m = omega arith
+
+    -- the next level has an entry for each of them
+    all_told : (size' first' : ℕ) (above : List Entry) → (size' ≡ 8) ⊎ (size' ≡ 16) → Rises above → first' + level_nodes (length above) size' ≤ length ns → (first' ≡ 0) ⊎ (0 < length above) → above ≡ leads first size es n
+        → ArePieces ns (suc level) first' size' above (level_nodes (length above) size') → (l i : ℕ) → i < first + n → IsAt t l i → HasEntryAbove t l i
+    all_told size' first' above sizes' rises' room' some' is pieces' l i h =
+        split (λ (x : ℕ). IsAt t l x → HasEntryAbove t l x) i h (b.told l i) row
+      where
+        row : (k : ℕ) → k < n → IsAt t l (first + k) → HasEntryAbove t l (first + k)
+        row k hk a =
+            let same = level_is l k hk a in
+            let long : length above ≡ n = ap (λ (xs : List Entry). length xs) is ∙ length-leads first size es n in
+            let up = entry_in words (suc level) first' size' above sizes' rises' room' some' pieces' k (omega (arith, long, hk)) in
+            let lead : get_or above k (0, 0) ≡ (low_at es (k * size), first + k) = ap (λ (xs : List Entry). get_or xs k (0, 0)) is ∙ lead_is words level first size es b.sizes b.rises room b.some b.pieces k (0, 0) hk in
+            let named : get_or above k (0, 0) ≡ (low t (first + k), first + k) = lead ∙ (λ j. (sym (b.pieces k hk).low j, first + k)) in
+            let next : suc level ≡ l + 1 = omega (arith, same) in
+            (up.0, subst (λ (m : ℕ). IsAt t m up.0) next up.1, subst (λ (x : Entry). Contains (entries_of (node_of ns up.0)) x) named up.2)
 
   pub built : (each ≡ 8) ⊎ (each ≡ 16) → Rises rows → (level size first : ℕ) (es : List Entry) → IsTree ns each rows level size first es → first + level_nodes (length es) size ≤ length ns → Built level size first es
   built sizes rises zero size first es tree room =
@@ -174,6 +227,11 @@ module _ (words : List ℕ) (rows : List Entry) (each : ℕ) where
         alone = λ l i j q less h hi hj ci cj. omega (arith, h, f);
         leafy = λ i h. absurd (omega (arith, h, f));
         inner = λ l i h a s. absurd (omega (arith, h, f));
+        wide = λ j. level_nodes (length (tree.2 j)) (tree.0 j);
+        under = λ below is. absurd (omega (arith, is));
+        last = λ l i h a s. absurd (omega (arith, h, f));
+        told = λ l i h a. absurd (omega (arith, h, f));
+        clear = λ i h. absurd (omega (arith, h, f));
         zeroth = λ h. absurd (omega (arith, h, f));
         deep = omega arith;
       }
@@ -184,6 +242,8 @@ module _ (words : List ℕ) (rows : List Entry) (each : ℕ) where
       let b = built sizes rises below lower start under tree.1.3 room' in
       let lead : LeadBelow t below es = subst (LeadBelow t below) (sym is) (leads_below words below start lower under b.sizes b.rises room' b.some b.pieces) in
       let cover = all_cover below lower start under b room' in
+      let long : length es ≡ nodes_at (length rows) each below = ap (λ (xs : List Entry). length xs) is ∙ (length-leads start lower under (level_nodes (length under) lower) ∙ b.wide) in
+      let up : Rises es = subst Rises (sym is) (lead_rises words below start lower under b.sizes b.rises room' b.some b.pieces) in
       let s = (level_some (length under) lower b.sizes).0 in record {
         sizes = inr tree.0;
         rises = subst Rises (sym is) (lead_rises words below start lower under b.sizes b.rises room' b.some b.pieces);
@@ -197,6 +257,11 @@ module _ (words : List ℕ) (rows : List Entry) (each : ℕ) where
         alone = λ l i j q less h hi hj ci cj. all_alone below lower start under b room' l i j q less (omega (arith, h, e)) hi hj ci cj;
         leafy = λ i h. all_leafy below lower start under b room' i (omega (arith, h, e));
         inner = λ l i h a s. all_inner below lower start under b room' l i (omega (arith, h, e)) a s;
+        wide = λ j. level_nodes (long j) (tree.0 j);
+        under = λ l x. let same : below ≡ l = omega (arith, x) in subst (λ (m : ℕ). length es ≡ nodes_at (length rows) each m) same long;
+        last = λ l i h a s. all_last below lower start under b room' l i (omega (arith, h, e)) a s;
+        told = λ l i h a. all_told below lower start under b room' size first es (inr tree.0) up room (inr lead.some) is tree.2 l i (omega (arith, h, e)) a;
+        clear = λ i h. all_clear below lower start under b room' i (omega (arith, h, e));
         zeroth = λ h. all_zeroth below lower start under b room';
         deep = let d = b.deep in omega (arith, d, e, s);
       }

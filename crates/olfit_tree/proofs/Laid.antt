@@ -5,16 +5,16 @@ use Rattle.std.proofs.lemmas.List.{length-map}
 use Rattle.atomic_table.specs.Seated.{TableId}
 use Rattle.atomic_table.specs.declared.shared.Seat.{Seat}
 use Rattle.key_space.specs.declared.key.Key.{Key}
-use Rattle.olfit_nodes.specs.Nodes.{Entry, Rises}
+use Rattle.olfit_nodes.specs.Nodes.{Entry, count_of, Rises}
 use Rattle.olfit_rule.specs.declared.view.View.{View}
 use Rattle.olfit_rule.specs.Rule.{CanOpen, IsAtRest, opener, nodes_in}
-use Rattle.olfit_rule.specs.Tree.{Good, leaf_entries}
+use Rattle.olfit_rule.specs.Tree.{node_of, Good, leaf_entries}
 use Rattle.olfit_walk.specs.Looks.{entries_of_keys}
 use Rattle.olfit_change.specs.Room.{IsPaid}
-use Rattle.olfit_change.specs.States.{HasLowVersions, IsFreeFrom, Works}
-use Rattle.olfit_tree.specs.Build.{HoldsTree, nodes_over, nodes_with, per_leaf}
-use Rattle.olfit_tree.specs.Index.{IsPacked}
-use Rattle.olfit_tree.proofs.Opened.{base_is, can_open, free_from, good, inner_full, leaf_rows, long, low_versions, nodes_long, paid, rest}
+use Rattle.olfit_change.specs.States.{HasLowVersions, IsFreeFrom, IsTold, IsClean, IsBetweenCalls}
+use Rattle.olfit_tree.specs.Build.{HoldsTree, nodes_at, nodes_over, nodes_with, per_leaf}
+use Rattle.olfit_tree.specs.Index.{IsNew, IsPacked}
+use Rattle.olfit_tree.proofs.Opened.{base_is, can_open, clean_all, last_rest, new_all, told_all, free_from, good, inner_full, leaf_rows, long, low_versions, nodes_long, paid, rest}
 use Rattle.olfit_tree.proofs.Sizes.{over_few, room_for, size_of}
 
 module _ (wanted nodes : ℕ) (sorted : List (Key × ℕ)) (each : ℕ) (some : 0 < wanted) (few : length sorted < 2 ^ 32) (small : wanted < 2 ^ 32) (limit : nodes ≡ max wanted (nodes_over (length sorted)))
@@ -58,7 +58,7 @@ module _ (wanted nodes : ℕ) (sorted : List (Key × ℕ)) (each : ℕ) (some : 
       paid_is = subst (λ (w : View). IsPaid used (length sorted + 0) w.seen) (sym is)
           (subst (λ (n : ℕ). IsPaid used n (opener words).seen) (let l = rows_long in omega (arith, l)) (paid words laid.0 nodes used each rows sizes rises laid.1 fits laid.2))
 
-      pub works_is : (table : TableId) (seat : Seat ℕ View) → seat.table_id ≡ table → seat.me.0 ≡ v → table.words ≡ nodes * 64 + 1 → Works table nodes used seat
+      pub works_is : (table : TableId) (seat : Seat ℕ View) → seat.table_id ≡ table → seat.me.0 ≡ v → table.words ≡ nodes * 64 + 1 → IsBetweenCalls table nodes used seat
       works_is table seat own me sized =
           let m = me ∙ is in record {
             ready = record {
@@ -69,15 +69,31 @@ module _ (wanted nodes : ℕ) (sorted : List (Key × ℕ)) (each : ℕ) (some : 
               sized = (omega (arith, some, limit), few_nodes.1, sized);
             };
             free = subst (λ (w : View). IsFreeFrom used w.seen) (sym m) (free_from words laid.0 nodes used each rows sizes rises laid.1 fits laid.2);
+            told = subst (λ (w : View). IsTold w.seen) (sym m) (told_all words laid.0 nodes used each rows sizes rises laid.1 fits laid.2);
+            clean = subst (λ (w : View). IsClean w.seen) (sym m) (clean_all words laid.0 nodes used each rows sizes rises laid.1 fits laid.2);
             versions = subst (λ (w : View). HasLowVersions w.seen) (sym m) (low_versions words laid.0 nodes used each rows sizes rises laid.1 fits laid.2);
           }
+
+      pub told_is : IsTold v.seen
+      told_is = subst (λ (w : View). IsTold w.seen) (sym is) (told_all words laid.0 nodes used each rows sizes rises laid.1 fits laid.2)
+
+      pub clean_is : IsClean v.seen
+      clean_is = subst (λ (w : View). IsClean w.seen) (sym is) (clean_all words laid.0 nodes used each rows sizes rises laid.1 fits laid.2)
+
+      pub new_is : IsNew v.seen
+      new_is = subst (λ (w : View). IsNew w.seen) (sym is) (new_all words laid.0 nodes used each rows sizes rises laid.1 fits laid.2)
 
       pub packed_is : (table : TableId) → IsPacked wanted (record { table = table; base = v.base; now = v.seen; used = used; inserts = 0 })
       packed_is table = subst (λ (w : View). IsPacked wanted (record { table = table; base = w.base; now = w.seen; used = used; inserts = 0 })) (sym is) record {
         leaves = λ i h. leaf_rows words laid.0 nodes used each rows sizes rises laid.1 fits laid.2 i h
             ∙ (λ j. take (per j) (drop (i * per j) (sym laid_base j)));
         inner = λ l i h s. inner_full words laid.0 nodes used each rows sizes rises laid.1 fits laid.2 l i h s;
+        last = λ l i h s. subst (λ (n : ℕ). 16 * (n - 1) + count_of (node_of (nodes_in words) i) ≡ nodes_at (length (leaf_entries (nodes_in words))) (per_leaf wanted (length (leaf_entries (nodes_in words)))) l) (sized (l + 1))
+            (subst (λ (n : ℕ). 16 * (nodes_at (length rows) each (l + 1) - 1) + count_of (node_of (nodes_in words) i) ≡ n) (sized l) (last_rest words laid.0 nodes used each rows sizes rises laid.1 fits laid.2 l i h s));
       }
         where
           per : each ≡ per_leaf wanted (length (leaf_entries (nodes_in words)))
           per = size ∙ ap (per_leaf wanted) (sym (ap (λ (xs : List Entry). length xs) laid_base ∙ rows_long))
+
+          sized : (l : ℕ) → nodes_at (length rows) each l ≡ nodes_at (length (leaf_entries (nodes_in words))) (per_leaf wanted (length (leaf_entries (nodes_in words)))) l
+          sized l = λ j. nodes_at (length (sym laid_base j)) (per j) l

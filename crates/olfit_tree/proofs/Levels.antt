@@ -2,7 +2,7 @@
 use Rattle.std.proofs.Common.{◌≡◌, ◌≢◌, ◌⊎◌, ℕ, ◌+◌, ◌-◌, ◌*◌, ◌<◌, ◌≤◌, List, length, get_or, take, drop, refl, sym, ap, ◌∙◌, subst, arith, inl, inr, ⊎_elim}
 use Rattle.std.specs.Prelude.{min}
 use Rattle.std.specs.Option.{ForSome}
-use Rattle.std.specs.List.{All}
+use Rattle.std.specs.List.{All, Contains}
 use Rattle.std.proofs.lemmas.Bool.{cases_eq}
 use Rattle.std.proofs.lemmas.List.{get_or_default}
 use Rattle.std.proofs.lemmas.List.FromFn.{get_or-map-range_with_len}
@@ -17,7 +17,7 @@ use Rattle.olfit_tree.specs.Build.{ArePieces, leads, level_nodes, low_at}
 use Rattle.olfit_tree.proofs.Growing.{length-leads}
 use Rattle.olfit_tree.proofs.Marks.{level_at}
 use Rattle.olfit_tree.proofs.Rows.{first_is, key, key_less, low_key, low_less, low_most, low_zero, piece_at, piece_long, piece_map, piece_rises, right_is, right_some}
-use Rattle.olfit_tree.proofs.Sizes.{apart, begins, follows, goes_on, next_start, size_some}
+use Rattle.olfit_tree.proofs.Sizes.{apart, begins, follows, goes_on, next_start, piece_of, size_some}
 
 -- what the entries of a level above the leaves lead to
 pub record LeadBelow (t : Moment) (below : ℕ) (es : List Entry) : Type 0 where
@@ -157,6 +157,21 @@ module _ (words : List ℕ) (level first each : ℕ) (es : List Entry) (size : (
         where
           plus_none : (m : ℕ) → m + 0 ≡ m
           plus_none m = omega arith
+
+  -- each entry of the level lies in one of them
+  pub entry_in : (k : ℕ) → k < length es → (above : ℕ) × IsAt t level above × Contains (entries_of (node_of (nodes_in words) above)) (get_or es k (0, 0))
+  entry_in k h =
+      let p = piece_of (length es) each size k h in
+      let j : ℕ = p.0 in let inside = p.1 in let start = p.2 in let end = p.3 in
+      let e : Entry = get_or es k (0, 0) in
+      let long = piece_long es (j * each) each in
+      let here : j * each + (k - j * each) ≡ k = omega (arith, start) in
+      let there : Contains (take each (drop (j * each) es)) e = (
+        k - j * each,
+        omega (arith, long, start, end, h),
+        piece_at es (j * each) each (k - j * each) e (omega (arith, start, end)) ∙ (ap (λ (i : ℕ). get_or es i e) here ∙ get_or_default es k e (0, 0) h),
+      ) in
+      (first + j, row_at j inside, subst (λ (xs : List Entry). Contains xs e) (sym (pieces j inside).rows) there)
 
   -- the entries that lead to them
   pub lead_is : (k : ℕ) (d : Entry) → k < n → get_or (leads first each es n) k d ≡ (low_at es (k * each), first + k)

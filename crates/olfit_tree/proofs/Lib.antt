@@ -1,3 +1,4 @@
+pub mod BetweenCalls
 pub mod Built
 pub mod Chains
 pub mod Growing
@@ -10,5 +11,4 @@ pub mod Pieces
 pub mod Rows
 pub mod Seen
 pub mod Sizes
-pub mod Works
 pub mod Zeros

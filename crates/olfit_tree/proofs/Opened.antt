@@ -1,5 +1,5 @@
 -- The words of a tree, with words of free nodes and the root's number behind them, are those of an index.
-use Rattle.std.proofs.Common.{◌≡◌, ◌≢◌, ◌⊎◌, ℕ, suc, true, false, ◌+◌, ◌-◌, ◌*◌, ◌/◌, ◌<◌, ◌≤◌, Bool, cond, eqb, List, [], ◌∷◌, ◌++◌, length, get_or, take, drop, replicate, IsSome, refl, sym, ap, ◌∙◌, subst, arith, ⊎_elim, append_assoc, get_or-take, get_or-drop, length-append, length-drop}
+use Rattle.std.proofs.Common.{◌≡◌, ◌≢◌, ◌⊎◌, ℕ, suc, true, false, ◌+◌, ◌-◌, ◌*◌, ◌/◌, ◌<◌, ◌≤◌, Bool, cond, eqb, List, [], ◌∷◌, ◌++◌, length, get_or, take, drop, replicate, IsSome, None, refl, sym, ap, ◌∙◌, subst, arith, inl, inr, ⊎_elim, append_assoc, get_or-take, get_or-drop, length-append, length-drop}
 use Rattle.std.specs.Prelude.{slice_index}
 use Rattle.std.proofs.Math.Nat.{mul-le-mul_right}
 use Rattle.std.proofs.lemmas.Bool.{cases_eq, cases_lt, eq-eqb}
@@ -11,14 +11,15 @@ use Rattle.olfit_rule.specs.Tree.{node_of, low, version, Covers, Good, IsAt, IsN
 use Rattle.olfit_rule.specs.Rule.{CanOpen, IsAtRest, opener, nodes_in, opening_of, part}
 use Rattle.olfit_rule.proofs.Opens.{length-nodes_in, length-part, node_in}
 use Rattle.olfit_change.specs.Room.{weight, IsPaid}
-use Rattle.olfit_change.specs.States.{HasLowVersions, IsFreeFrom}
-use Rattle.olfit_tree.specs.Build.{HoldsTree, IsTree, level_nodes}
-use Rattle.olfit_tree.proofs.Built.{Built, IsBuilt, all_alone, all_above, all_cover, all_inner, all_leafy, all_nodes, all_zeroth, built, leaf_part}
+use Rattle.olfit_change.specs.States.{HasLowVersions, IsFreeFrom, IsTold, IsClean}
+use Rattle.olfit_tree.specs.Index.{IsNew}
+use Rattle.olfit_tree.specs.Build.{HoldsTree, IsTree, level_nodes, nodes_at}
+use Rattle.olfit_tree.proofs.Built.{Built, IsBuilt, all_alone, all_above, all_clear, all_cover, all_inner, all_last, all_leafy, all_nodes, all_zeroth, built, leaf_part}
 use Rattle.olfit_tree.proofs.Levels.{row_at}
 use Rattle.olfit_tree.proofs.Marks.{level_none}
 use Rattle.olfit_tree.proofs.Payments.{pays, weigh}
 use Rattle.olfit_tree.proofs.Rows.{low_zero}
-use Rattle.olfit_tree.proofs.Zeros.{Zero, levels_long, no_weights, zero_count, zero_entries, zeros_are}
+use Rattle.olfit_tree.proofs.Zeros.{Zero, levels_long, no_weights, zero_clear, zero_count, zero_entries, zeros_are}
 
 -- the leaves' entries are the rows, where each leaf has the next ones
 leaves_are : (ns : List (List ℕ)) (rows : List Entry) (each : ℕ) → ((i : ℕ) → i < length ns → leaf_part (node_of ns i) ≡ take each (drop (i * each) rows)) → length rows ≤ length ns * each → leaf_entries ns ≡ rows
@@ -212,6 +213,21 @@ module _ (words tree : List ℕ) (nodes used each : ℕ) (rows : List Entry) (si
     tall = let d = b.deep in let r = root_level in let s = some in omega (arith, d, r, s);
   }
 
+  pub told_all : IsTold t
+  told_all l i h = let k = linked l i h in ⊎_elim
+      (λ (below : i < used - 1). inr (b.told l i below h))
+      (λ (top : used - 1 ≤ i). inl (let e : i ≡ used - 1 = omega (arith, k, top) in e ∙ sym root_is))
+      (cases_lt i (used - 1))
+
+  pub clean_all : IsClean t
+  clean_all i h = ⊎_elim
+      (λ (inside : i < used). all_clear words rows each level size (used - 1) es b room i (let e = end in omega (arith, e, inside)))
+      (λ (past : used ≤ i). zero_clear (node_of ns i) (rest.wide i h) (free_node i past))
+      (cases_lt i used)
+
+  pub new_all : IsNew t
+  new_all i = let v = low_versions i in omega (arith, v)
+
   pub paid : IsPaid used (length rows) t
   paid =
       let p = pays words rows each sizes rises level size (used - 1) es grown room in
@@ -234,3 +250,6 @@ module _ (words tree : List ℕ) (nodes used each : ℕ) (rows : List Entry) (si
 
   pub inner_full : (l i : ℕ) → IsAt t (l + 1) i → IsSome (right_of (node_of ns i)) → count_of (node_of ns i) ≡ 16
   inner_full l i h s = all_inner words rows each level size (used - 1) es b room l i (let e = end in let k = linked (l + 1) i h in omega (arith, e, k)) h s
+
+  pub last_rest : (l i : ℕ) → IsAt t (l + 1) i → right_of (node_of ns i) ≡ None → 16 * (nodes_at (length rows) each (l + 1) - 1) + count_of (node_of ns i) ≡ nodes_at (length rows) each l
+  last_rest l i h none = all_last words rows each level size (used - 1) es b room l i (let e = end in let k = linked (l + 1) i h in omega (arith, e, k)) h none

@@ -1,5 +1,5 @@
 -- How many nodes the levels of a tree have.
-use Rattle.std.proofs.Common.{◌≡◌, ◌⊎◌, ◌≢◌, ℕ, zero, suc, ◌+◌, ◌-◌, ◌*◌, ◌<◌, ◌≤◌, ◌^◌, Bool, cond, refl, sym, ap, ◌∙◌, subst, arith, inl, inr, ⊎_elim}
+use Rattle.std.proofs.Common.{◌≡◌, ◌⊎◌, ◌≢◌, ℕ, zero, suc, ◌+◌, ◌-◌, ◌*◌, ◌/◌, ◌<◌, ◌≤◌, ◌^◌, Bool, cond, refl, sym, ap, ◌∙◌, subst, arith, inl, inr, ⊎_elim}
 use Rattle.std.specs.Prelude.{nat_le, max}
 use Rattle.std.proofs.lemmas.Bool.{cases_eq, cases_lt, le-leb, lt-leb}
 use Rattle.olfit_tree.specs.Build.{parts, level_nodes, nodes_above, nodes_with, nodes_over, per_leaf}
@@ -114,3 +114,7 @@ module _ (n each : ℕ) (size : (each ≡ 8) ⊎ (each ≡ 16)) where
 
   pub level_some : (0 < level_nodes n each) × (level_nodes n each ≤ n + 1)
   level_some = by_size (λ (z : ℕ). (0 < level_nodes n z) × (level_nodes n z ≤ n + 1)) (omega arith, omega arith) (omega arith, omega arith)
+
+  -- the piece in which an entry lies
+  pub piece_of : (k : ℕ) → k < n → (j : ℕ) × (j < level_nodes n each) × (j * each ≤ k) × (k < j * each + each)
+  piece_of k h = by_size (λ (z : ℕ). (j : ℕ) × (j < level_nodes n z) × (j * z ≤ k) × (k < j * z + z)) (k / 8, omega (arith, h), omega arith, omega arith) (k / 16, omega (arith, h), omega arith, omega arith)

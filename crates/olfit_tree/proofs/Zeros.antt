@@ -1,5 +1,5 @@
 -- Words that are all zero are those of an index with no key.
-use Rattle.std.proofs.Common.{◌≡◌, ℕ, zero, suc, ◌+◌, ◌-◌, ◌*◌, ◌/◌, ◌%◌, ◌<◌, ◌≤◌, Bool, true, false, cond, eqb, List, [], ◌∷◌, ◌++◌, length, get_or, map, take, drop, replicate, Some, None, sym, refl, ap, ◌∙◌, subst, arith, ⊎_elim, get_or-drop}
+use Rattle.std.proofs.Common.{◌≡◌, ℕ, zero, suc, ◌+◌, ◌-◌, ◌*◌, ◌/◌, ◌%◌, ◌<◌, ◌≤◌, Bool, true, false, cond, eqb, List, [], ◌∷◌, ◌++◌, length, get_or, map, take, drop, replicate, Some, None, sym, refl, ap, ◌∙◌, subst, arith, inl, ⊎_elim, get_or-drop, length-drop}
 use Rattle.std.specs.Prelude.{slice_index, sum_by}
 use Rattle.std.specs.Option.{ForSome}
 use Rattle.std.specs.List.{All, range_with_len}
@@ -7,14 +7,15 @@ use Rattle.std.proofs.lemmas.Bool.{cases_lt}
 use Rattle.std.proofs.lemmas.List.{length-map}
 use Rattle.std.proofs.lemmas.List.Sums.{sum_by-cons}
 use Rattle.olfit_nodes.specs.declared.head.Link.{Link}
-use Rattle.olfit_nodes.specs.Nodes.{Entry, number_of, entry_at, entries_of, count_of, level_of, low_of, right_of, Rises}
+use Rattle.olfit_nodes.specs.Nodes.{Entry, number_of, entry_at, entries_of, count_of, level_of, low_of, right_of, IsClear, Rises}
 use Rattle.olfit_rule.specs.declared.view.Moment.{Moment}
 use Rattle.olfit_rule.specs.Maps.{map_of}
 use Rattle.olfit_rule.specs.Tree.{node_of, Good, Covers, IsAt, IsNode, leaf_entries, levels_of, mark_of}
 use Rattle.olfit_rule.specs.Rule.{CanOpen, IsAtRest, opener, opening_of}
 use Rattle.olfit_rule.proofs.Opens.{length-nodes_in, length-part, node_in}
 use Rattle.olfit_change.specs.Room.{weight, IsPaid}
-use Rattle.olfit_change.specs.States.{IsFreeFrom, HasLowVersions}
+use Rattle.olfit_change.specs.States.{IsFreeFrom, IsTold, IsClean, HasLowVersions}
+use Rattle.olfit_tree.specs.Index.{IsNew}
 use Rattle.olfit_change.proofs.Weights.{weight_none}
 
 abbrev pub Zero : List ℕ → Type 0
@@ -53,6 +54,15 @@ zero_entries ws z = ap (λ (n : ℕ). map (entry_at ws) (range_with_len 0 n)) (z
 
 zero_mark : (ws : List ℕ) → Zero ws → mark_of ws ≡ 0
 zero_mark ws z = ap (λ (n : ℕ). cond (eqb n 0) 0 (level_of ws + 1)) (zero_count ws z)
+
+zeros_of : (n : ℕ) (ws : List ℕ) → length ws ≡ n → Zero ws → ws ≡ replicate n 0
+zeros_of zero [] long z = refl
+zeros_of zero (w ∷ ws) long z = absurd (omega (arith, long))
+zeros_of (suc n) [] long z = absurd (omega (arith, long))
+zeros_of (suc n) (w ∷ ws) long z = λ j. z 0 j ∷ zeros_of n ws (omega (arith, long)) (λ k. z (suc k)) j
+
+pub zero_clear : (ws : List ℕ) → length ws ≡ 64 → Zero ws → IsClear ws
+zero_clear ws long z = zeros_of 9 (drop 55 ws) (let d = length-drop 55 ws in omega (arith, d, long)) (zero_drop 55 ws z)
 
 -- lists of such nodes
 
@@ -173,6 +183,15 @@ module _ (words : List ℕ) (n : ℕ) (all : Zero words) (long : length words �
     top = λ l i h. let o = (only l i h).1 in let r = root_level in omega (arith, o, r);
     tall = let r = root_level in omega (arith, r);
   }
+
+  pub told_zeros : IsTold t
+  told_zeros l i h = inl ((only l i h).0 ∙ sym root_is)
+
+  pub clean_zeros : IsClean t
+  clean_zeros i h = zero_clear (node_of t.image i) (rest_zeros.wide i h) (each i)
+
+  pub new_zeros : IsNew t
+  new_zeros i = each i 0
 
   pub low_zeros : HasLowVersions t
   low_zeros i = let z = each i 0 in omega (arith, z)

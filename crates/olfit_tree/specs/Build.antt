@@ -6,7 +6,7 @@ use Rattle.std.specs.Prelude.{slice_get, slice_index, slice_index_or}
 use Rattle.std.specs.Option.{option_map}
 use Rattle.std.specs.List.{range_with_len}
 use Rattle.olfit_nodes.specs.declared.head.Link.{Link}
-use Rattle.olfit_nodes.specs.Nodes.{Entry, entries_of, level_of, low_of, right_of}
+use Rattle.olfit_nodes.specs.Nodes.{Entry, entries_of, level_of, low_of, right_of, IsClear}
 use Rattle.olfit_rule.specs.Tree.{Nodes, node_of}
 use Rattle.olfit_rule.specs.Rule.{nodes_in}
 
@@ -34,6 +34,11 @@ nodes_with rows each = level_nodes rows each + nodes_above (level_nodes rows eac
 abbrev pub nodes_over : ℕ → ℕ
 nodes_over rows = nodes_with rows 16
 
+-- how many nodes a level has of a tree over so many entries, with so many in each full leaf
+abbrev pub nodes_at : ℕ → ℕ → ℕ → ℕ
+nodes_at rows each zero = level_nodes rows each
+nodes_at rows each (suc below) = level_nodes (nodes_at rows each below) 16
+
 -- how many entries each leaf but the last one gets
 abbrev pub per_leaf : ℕ → ℕ → ℕ
 per_leaf nodes rows = if nat_le rows (6 * (nodes - 4)) then 8 else 16
@@ -55,6 +60,7 @@ pub record IsPiece (level first each : ℕ) (entries : List Entry) (i : ℕ) (wo
   pub low : low_of words ≡ low_at entries (i * each)
   pub right : right_of words ≡ right_at entries (i * each + each) (first + i + 1)
   pub rows : entries_of words ≡ take each (drop (i * each) entries)
+  pub clear : IsClear words
 
 -- so many nodes of a level over these entries
 abbrev pub ArePieces : Nodes → ℕ → ℕ → ℕ → List Entry → ℕ → Type 0

@@ -9,10 +9,10 @@ use Rattle.olfit_rule.specs.declared.view.Change.TheVariants.{Add, Drop}
 use Rattle.olfit_rule.specs.declared.view.Moment.{Moment}
 use Rattle.olfit_rule.specs.declared.view.View.{View}
 use Rattle.olfit_rule.specs.Maps.{map_of, map_after}
-use Rattle.olfit_rule.specs.Tree.{node_of, IsAt}
+use Rattle.olfit_rule.specs.Tree.{node_of, version, IsAt}
 use Rattle.olfit_walk.specs.Looks.{entries_of_keys}
 use Rattle.olfit_change.specs.Room.{Needs}
-use Rattle.olfit_tree.specs.Build.{per_leaf}
+use Rattle.olfit_tree.specs.Build.{nodes_at, per_leaf}
 use Rattle.olfit_tree.specs.declared.writer.AddFault.{AddFault}
 use Rattle.olfit_tree.specs.declared.writer.AddFault.TheVariants.{Present, NodesFull}
 
@@ -66,14 +66,25 @@ HasDropped key None old new = (map_now old key ≡ None) × (new ≡ old)
 
 -- The building
 
--- Leaf i has so many of the entries of which the index was built, from its place on; each node above the
--- leaves that has a right neighbour has 16.
+-- how many nodes a level of an index for so many nodes has when it is built
+abbrev pub built_at : ℕ → Writing → ℕ → ℕ
+built_at nodes w level = nodes_at (length w.base) (per_leaf nodes (length w.base)) level
+
+-- Leaf i has so many of the entries of which the index was built, from its place on. Above the leaves a node
+-- that has a right neighbour has 16 entries, and the last one of its level has what is left of an entry for
+-- each node below.
 pub record IsPacked (nodes : ℕ) (w : Writing) : Type 0 where
   pub leaves : (i : ℕ) → IsAt w.now 0 i
       → entries_of (node_of w.now.image i) ≡ take (per_leaf nodes (length w.base))
       (drop (i * per_leaf nodes (length w.base)) w.base)
   pub inner : (level i : ℕ) → IsAt w.now (level + 1) i → IsSome (right_of (node_of w.now.image i))
       → count_of (node_of w.now.image i) ≡ 16
+  pub last : (level i : ℕ) → IsAt w.now (level + 1) i → right_of (node_of w.now.image i) ≡ None
+      → 16 * (built_at nodes w (level + 1) - 1) + count_of (node_of w.now.image i) ≡ built_at nodes w level
+
+-- no node was changed yet
+abbrev pub IsNew : Moment → Type 0
+IsNew t = (i : ℕ) → version t.image i ≡ 0
 
 -- The end
 

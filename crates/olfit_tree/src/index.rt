@@ -8,6 +8,7 @@ ghost use Rattle.olfit_tree.specs.Index.{HasAll};
 use crate::build::{laid_out, leaf_size, nodes_needed};
 use crate::reader::Reader;
 use crate::writer::Writer;
+use base_types::OutOfMemory;
 use key_space::Key;
 use olfit_nodes::{count, entry, right};
 use olfit_rule::{Hand, Memory, Words, opened, own_node};
@@ -43,7 +44,8 @@ impl Model for Index {
 
 impl Index {
     ghost use Rattle.olfit_tree.specs.Build.{nodes_over, nodes_with, per_leaf};
-    ghost use Rattle.olfit_tree.specs.Index.{IsAllOf, IsPacked};
+    ghost use Rattle.olfit_change.specs.States.{IsClean, IsTold};
+    ghost use Rattle.olfit_tree.specs.Index.{IsAllOf, IsNew, IsPacked};
 
     /// An index of these entries, whose keys rise, with its writer. It has so many nodes, or as many as the
     /// entries need with 16 in each full node. Where there are at most six entries for each node but four,
@@ -55,7 +57,7 @@ impl Index {
         number: u16,
         nodes: u32,
         sorted: &[(Key, u64)],
-    ) -> Result<(Index, Writer), AllocError>
+    ) -> Result<(Index, Writer), OutOfMemory>
         requires some { 0 < nodes }
         requires rises { Rises (entries_of_keys sorted.now) }
         requires few { length sorted.now < 2 ^ 32 }
@@ -67,6 +69,9 @@ impl Index {
         ensures used { IfOk result (λ made. made.1.used
             ≡ nodes_with (length sorted.now) (per_leaf nodes (length sorted.now))) }
         ensures packed { IfOk result (λ made. IsPacked nodes made.1) }
+        ensures new { IfOk result (λ made. IsNew made.1.now) }
+        ensures told { IfOk result (λ made. IsTold made.1.now) }
+        ensures clean { IfOk result (λ made. IsClean made.1.now) }
     {
         let wanted = nodes as usize;
         let nodes = wanted.max(nodes_needed(sorted.len()));
@@ -89,13 +94,17 @@ impl Index {
     }
 
     /// An index of so many nodes that has no key, with its writer. Its number names it among other indexes.
-    pub fn empty(alloc: Global, number: u16, nodes: u32) -> Result<(Index, Writer), AllocError>
+    /// Out of memory: there is no index.
+    pub fn empty(alloc: Global, number: u16, nodes: u32) -> Result<(Index, Writer), OutOfMemory>
         requires { 0 < nodes }
         ensures index { IfOk result
             (λ made. (made.1.table ≡ made.0.table) × (made.0.nodes ≡ nodes)
             × (made.0.number ≡ number)) }
         ensures none { IfOk result (λ made. (made.1.base ≡ []) × (made.1.now.log ≡ [])
             × (made.1.inserts ≡ 0) × (made.1.used ≡ 1)) }
+        ensures new { IfOk result (λ made. IsNew made.1.now) }
+        ensures told { IfOk result (λ made. IsTold made.1.now) }
+        ensures clean { IfOk result (λ made. IsClean made.1.now) }
     {
         let nodes = nodes as usize;
         let words = vec![in alloc; 0u64; nodes * 64 + 1]?;

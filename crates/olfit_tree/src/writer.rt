@@ -5,10 +5,10 @@ ghost use Rattle.olfit_rule.specs.Maps.{StartsWith};
 
 use crate::index::Index;
 use crate::reader::Reader;
+use base_types::OutOfMemory;
 use key_space::Key;
 use olfit_change::{nodes_needed, put, take, value_of};
 use olfit_rule::{Hand, agree, meet, reader};
-use std::alloc::AllocError;
 use std::marker::Model;
 
 /// Why a key isn't added.
@@ -48,7 +48,7 @@ impl Model for Writer {
     ghost use Rattle.std.specs.Prelude.{◌≡◌, ◌+◌, ◌≤◌, length};
     ghost use Rattle.olfit_tree.specs.Index.{Writing};
     ghost use Rattle.olfit_change.specs.Room.{IsPaid};
-    ghost use Rattle.olfit_change.specs.States.{Works};
+    ghost use Rattle.olfit_change.specs.States.{IsBetweenCalls};
 
     ghost Value = { Writing };
 
@@ -61,7 +61,7 @@ impl Model for Writer {
     } };
 
     ghost invariant = { λ w. record {
-      works : Works w.hand.table_id w.nodes w.used w.hand;
+      works : IsBetweenCalls w.hand.table_id w.nodes w.used w.hand;
       counted : w.changes ≡ length w.hand.me.0.seen.log;
       built : w.built ≡ length w.hand.me.0.base;
       inserted : w.inserts ≤ length w.hand.me.0.seen.log;
@@ -70,6 +70,7 @@ impl Model for Writer {
 }
 
 impl Writer {
+    ghost use Rattle.olfit_change.specs.States.{IsClean, IsTold};
     ghost use Rattle.olfit_tree.specs.Index.{CanAdd, CannotAdd, HasAdded, HasDropped};
 
     /// Adds a key. After a fault nothing is changed.
@@ -80,6 +81,8 @@ impl Writer {
             (CanAdd key.number index.now.nodes self.old × HasAdded key.number value self.old self.new) }
         ensures err { IfErr result (λ fault. CannotAdd key.number fault index.now.nodes self.old) }
         ensures unchanged { OnErr result (self.new ≡ self.old) }
+        ensures told { IsTold self.new.now }
+        ensures clean { IsClean self.new.now }
     {
         if let Some(fault) = self.fault(index, key.number) {
             return Err(fault);
@@ -117,6 +120,8 @@ impl Writer {
         ensures some { IfSome result (λ fault. CannotAdd key fault index.now.nodes self.old) }
         ensures none { IfNone result (CanAdd key index.now.nodes self.old) }
         ensures unchanged { self.new ≡ self.old }
+        ensures told { IsTold self.new.now }
+        ensures clean { IsClean self.new.now }
     {
         let shared = &index.memory.shared;
         if let Some(value) = value_of(shared, &mut self.hand, self.nodes, key) {
@@ -138,7 +143,9 @@ impl Writer {
     pub fn drop_key(&mut self, index: &Index, key: Key) -> Option<u64>
         requires index { self.old.table ≡ index.now.table }
         requires few { length self.old.now.log < 2 ^ 60 }
-        ensures { HasDropped key.number result self.old self.new }
+        ensures dropped { HasDropped key.number result self.old self.new }
+        ensures told { IsTold self.new.now }
+        ensures clean { IsClean self.new.now }
     {
         let shared = &index.memory.shared;
         let dropped = take(shared, &mut self.hand, self.nodes, key.number);
@@ -155,8 +162,8 @@ impl Writer {
         self.changes
     }
 
-    /// A reader, which knows all changes so far.
-    pub fn reader(&mut self, index: &Index) -> Result<Reader, AllocError>
+    /// A reader, which knows all changes so far. Out of memory: there is none, and the writer is as it was.
+    pub fn reader(&mut self, index: &Index) -> Result<Reader, OutOfMemory>
         requires { self.old.table ≡ index.now.table }
         ensures same { self.new ≡ self.old }
         ensures reader { IfOk result (λ r. (r.table ≡ self.old.table) × (r.base ≡ self.old.base)) }
@@ -171,14 +178,16 @@ impl Writer {
         })
     }
 
-    /// The reader knows all changes so far.
-    pub fn meet(&mut self, index: &Index, reader: &mut Reader) -> Result<(), AllocError>
+    /// The reader knows all changes so far. Out of memory: it knows what it knew. The reader's entries at the
+    /// building are the writer's, so that its look-ups are of the map that the writer changes.
+    pub fn meet(&mut self, index: &Index, reader: &mut Reader) -> Result<(), OutOfMemory>
         requires index { self.old.table ≡ index.now.table }
         requires reader { reader.old.table ≡ index.now.table }
-        ensures same { (self.new ≡ self.old) × (reader.new.seen ≡ reader.old.seen)
-            × (reader.new.base ≡ reader.old.base) × (reader.new.table ≡ reader.old.table) }
-        ensures told { OnOk result (reader.new.told ≡ self.old.now.log) }
-        ensures agree { OnOk result (StartsWith self.old.now.log reader.old.seen.log) }
+        ensures same { self.new ≡ self.old }
+        ensures told { OnOk result (reader.new ≡ record reader.old { told = self.old.now.log }) }
+        ensures agree { OnOk result
+            (StartsWith self.old.now.log reader.old.seen.log × (reader.old.base ≡ self.old.base)) }
+        ensures unchanged { OnErr result (reader.new ≡ reader.old) }
     {
         let shared = &index.memory.shared;
         meet(shared, &mut self.hand, &mut reader.hand);

@@ -28,7 +28,7 @@ OptionKey None = 0
 OptionKey (Some e) = e.0
 
 -- the first entry with a key gives its value
-map_at : (xs : List Entry) (p key : ℕ) (d : Entry) → p < length xs → (get_or xs p d).0 ≡ key → ((k : ℕ) → k < p → (get_or xs k d).0 ≢ key) → map_of xs key ≡ Some (get_or xs p d).1
+pub map_at : (xs : List Entry) (p key : ℕ) (d : Entry) → p < length xs → (get_or xs p d).0 ≡ key → ((k : ℕ) → k < p → (get_or xs k d).0 ≢ key) → map_of xs key ≡ Some (get_or xs p d).1
 map_at [] p key d h here before = absurd (omega arith)
 map_at (x ∷ xs) zero key d h here before = ap (λ (b : Bool). cond b (Some x.1) (map_of xs key)) (eq-eqb x.0 key here)
 map_at (x ∷ xs) (suc p) key d h here before = ap (λ (b : Bool). cond b (Some x.1) (map_of xs key)) (ne_eqb x.0 key (before 0 (omega arith))) ∙ map_at xs p key d (omega arith) here (λ k l. before (suc k) (omega arith))

@@ -95,4 +95,5 @@ follows_on p q r f g = record {
   later = later_on p.me.0.seen q.me.0.seen r.me.0.seen f.later g.later;
   told = subst (λ (l : List Change). StartsWith r.me.0.seen.log l) f.kept g.told;
   kept = g.kept ∙ f.kept;
+  loads = let x = f.loads in let y = g.loads in omega (arith, x, y);
 }

@@ -19,9 +19,9 @@ use Rattle.olfit_walk.specs.declared.answers.Piece.{Piece}
 use Rattle.olfit_walk.specs.declared.answers.Part.{Part}
 use Rattle.olfit_walk.specs.declared.answers.Part.TheVariants.{Chunk, Again as AgainPart}
 
--- a reader: of which index, of which entries it was built, the last
--- moment that the reader has seen, the changes of which it was told,
--- the node that it read last, and the version that it found there last
+-- a reader: of which index, of which entries it was built, the last moment that the reader
+-- has seen, the changes of which it was told, the node that it read last, the version that
+-- it found there last, and how many nodes it has begun to read
 pub record Reading : Type 0 where
   pub table : TableId
   pub base : List Entry
@@ -29,6 +29,7 @@ pub record Reading : Type 0 where
   pub told : List Change
   pub node : ℕ
   pub found : ℕ
+  pub loads : ℕ
 
 -- what a seat is as a reader
 abbrev pub reading_of : Seat ℕ View → Reading
@@ -40,6 +41,7 @@ reading_of p =
       told = p.me.0.told;
       node = p.me.0.node;
       found = p.me.0.last;
+      loads = p.me.0.loads;
     }
 
 -- a reader of this index, which has so many nodes
@@ -54,11 +56,13 @@ pub record IsTrueOf (r : Reading) (key : ℕ) (value : Option ℕ) : Type 0 wher
   pub says : map_after (map_of r.base) r.seen.log key ≡ value
   pub legal : IsLegal (map_of r.base) r.seen.log
 
--- the reader has seen no less than before, and all of which it was told
+-- the reader has seen no less than before, and all of which it was
+-- told, and has loaded a version: its answer is of nodes read since then
 pub record HasSeen (old new : Reading) : Type 0 where
   pub same : (new.table ≡ old.table) × (new.base ≡ old.base) × (new.told ≡ old.told)
   pub later : StartsWith new.seen.log old.seen.log
   pub told : StartsWith new.seen.log old.told
+  pub loaded : old.loads < new.loads
 
 -- of the node that was read last the first version was odd, or the last one found is another
 abbrev pub IsTornBy : ℕ → ℕ → ℕ → Reading → Type 0

@@ -7,6 +7,7 @@ mod answers;
 mod descend;
 mod leaf;
 mod looks;
+mod seek;
 
 pub use answers::{Look, Looked, Part, Piece};
 pub use descend::next_node;

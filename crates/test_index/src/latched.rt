@@ -1,22 +1,25 @@
-// A reader beside a writer that has latched a node. A call of `olfit_tree` ends with all nodes unlatched, so
-// the writer is made here from the layers below it; the look-ups are those that a `Reader` makes.
-ghost use Rattle.std.specs.Prelude.{◌≡◌, ◌<◌, [], IfOk, length};
-ghost use Rattle.olfit_change.specs.States.{IsReady, Works};
+// A reader beside a writer that has latched a node, or has split one and not yet told the level above. A call
+// of `olfit_tree` ends with all nodes unlatched and in their places, so the writer is made here from the layers
+// below it; the look-ups are those that a `Reader` makes.
+ghost use Rattle.std.specs.Prelude.{◌≡◌, ◌<◌, ◌≤◌, [], IfOk, length};
+ghost use Rattle.olfit_change.specs.States.{IsReady, IsBetweenCalls};
 ghost use Rattle.olfit_walk.specs.Looks.{CanLook};
 
 use atomic_table::Play;
+use base_types::OutOfMemory;
 use key_space::{Key, Range};
-use olfit_change::{nodes_needed, put, value_of};
+use olfit_change::{link_above, nodes_needed, put, put_leaf, value_of};
+use olfit_nodes::Link;
 use olfit_rule::{Hand, Memory, View, Words, meet, opened, own_node, reader};
 use olfit_walk::{Look, Looked, Part, try_chunk, try_get};
-use std::alloc::{AllocError, Global};
+use std::alloc::Global;
 
 /// The nodes of the index.
 const NODES: usize = 8;
 
 /// An index with no key, and its writer.
-fn open(alloc: Global) -> Result<(Memory, Hand), AllocError>
-    ensures works { IfOk result (λ made. Works made.0.shared.table_id 8 1 made.1) }
+fn open(alloc: Global) -> Result<(Memory, Hand), OutOfMemory>
+    ensures works { IfOk result (λ made. IsBetweenCalls made.0.shared.table_id 8 1 made.1) }
     ensures none { IfOk result (λ made. made.1.me.0.seen.log ≡ []) }
 {
     let words = vec![in alloc; 0u64; NODES * 64 + 1]?;
@@ -24,22 +27,22 @@ fn open(alloc: Global) -> Result<(Memory, Hand), AllocError>
     Ok((memory, writer))
 }
 
-/// Adds the keys from 1 to `keys`, each with ten times itself, and returns how many there was room for.
-fn fill(shared: &Words, me: &mut Hand, keys: u64) -> u64
-    requires works { Works shared.now.table_id 8 1 me.old }
+/// Adds the keys from 1 to `keys`, each with ten times itself, and returns how many there was room for. Nodes
+/// from `used` on are free.
+fn fill(shared: &Words, me: &mut Hand, used: &mut usize, keys: u64) -> u64
+    requires works { IsBetweenCalls shared.now.table_id 8 used.old me.old }
     requires none { me.old.me.0.seen.log ≡ [] }
-    ensures ready { IsReady shared.now.table_id 8 me.new }
-    ensures count { length me.new.me.0.seen.log ≡ result }
+    ensures works { IsBetweenCalls shared.now.table_id 8 used.new me.new }
+    ensures count { (length me.new.me.0.seen.log ≡ result) × (result ≤ 1_000) }
 {
-    let mut used = 1;
     for done in 0..keys.min(1_000) {
         let number = u128::from(done + 1);
         if value_of(shared, me, NODES, number).is_some()
-            || nodes_needed(shared, me, NODES, number) > NODES - used
+            || nodes_needed(shared, me, NODES, number) > NODES - *used
         {
             return done;
         }
-        put(shared, me, NODES, &mut used, number, (done + 1) * 10);
+        put(shared, me, NODES, used, number, (done + 1) * 10);
     }
     keys.min(1_000)
 }
@@ -125,6 +128,8 @@ impl Case {
     fn all_do(&self, shared: &Words, me: &mut Hand) -> bool
         requires seat { CanLook shared.now.table_id 8 me.old }
         requires known { self.now.keys ≡ length me.old.me.0.told }
+        ensures seat { CanLook shared.now.table_id 8 me.new }
+        ensures known { self.now.keys ≡ length me.new.me.0.told }
     {
         for below in 0..self.keys {
             let number = below + 1;
@@ -143,10 +148,11 @@ impl Case {
 }
 
 /// Whether a reader answers as it has to while the writer's node is latched.
-fn answers(alloc: Global, case: Case) -> Result<bool, AllocError> {
+fn answers(alloc: Global, case: Case) -> Result<bool, OutOfMemory> {
     let (memory, mut writer) = open(alloc)?;
     let shared = &memory.shared;
-    if fill(shared, &mut writer, case.keys) != case.keys || case.node >= NODES {
+    let mut used = 1;
+    if fill(shared, &mut writer, &mut used, case.keys) != case.keys || case.node >= NODES {
         return Ok(false);
     }
     let mut reading = reader(shared, &mut writer);
@@ -179,5 +185,64 @@ fn a_reader_answers_while_a_node_is_latched(rt: HostRuntime) {
         };
         let answers = answers(rt.alloc(), case);
         assert!(rt; answers == Ok(true), "{case:?}");
+    }
+}
+
+/// Whether a reader finds all keys while the leaf of the next one is split, no node above it is told of the new
+/// leaf, and only the link of the old one leads to it; and again once the level above is told.
+fn finds_by_the_link(alloc: Global, keys: u64, wanted: Link) -> Result<bool, OutOfMemory> {
+    let (memory, mut writer) = open(alloc)?;
+    let shared = &memory.shared;
+    let mut used = 1;
+    if fill(shared, &mut writer, &mut used, keys) != keys {
+        return Ok(false);
+    }
+    let mut reading = reader(shared, &mut writer);
+    meet(shared, &mut writer, &mut reading);
+    let key = Key {
+        number: u128::from(keys + 1),
+    };
+    if value_of(shared, &mut writer, NODES, key.number).is_some()
+        || nodes_needed(shared, &mut writer, NODES, key.number) > NODES - used
+    {
+        return Ok(false);
+    }
+    let all = Case {
+        keys,
+        node: 0,
+        version: 0,
+        from: 0,
+        upto: 0,
+    };
+    let added = Look::Found(Looked {
+        key,
+        value: Some((keys + 1) * 10),
+        known: keys,
+    });
+    match put_leaf(
+        shared,
+        &mut writer,
+        NODES,
+        &mut used,
+        key.number,
+        (keys + 1) * 10,
+    ) {
+        Some(link) => {
+            let found = all.all_do(shared, &mut reading);
+            let look = try_get(shared, &mut reading, NODES, key, keys);
+            link_above(shared, &mut writer, NODES, &mut used, key.number, link);
+            let again = all.all_do(shared, &mut reading);
+            Ok(link == wanted && found && look == added && again)
+        }
+        None => Ok(false),
+    }
+}
+
+/// The 17th key splits the leaf that is the root, and the 25th a leaf below a root.
+#[test]
+fn a_reader_finds_a_key_by_the_link_before_the_level_above_is_told(rt: HostRuntime) {
+    for (keys, key, node) in [(16, 9, 1), (24, 17, 3)] {
+        let found = finds_by_the_link(rt.alloc(), keys, Link { key, node });
+        assert!(rt; found == Ok(true), "{keys}");
     }
 }

@@ -7,9 +7,31 @@ use std::thread;
 /// How many keys are added, and then dropped.
 const KEYS: u64 = 10_000;
 
+/// How many keys are there all the while, between those that come and go.
+const KEPT: u64 = 250;
+
 /// The key of the add with this number.
 fn added_key(c: u64) -> u64 {
-    c % KEYS * 7_919 % 10_007
+    c % KEYS * 7_919 % 10_007 * 2
+}
+
+/// The key with this number that is there all the while.
+fn kept_key(n: u64) -> u64 {
+    n % KEPT * 80 + 1
+}
+
+/// Adds the keys that stay, each with its number, and answers how many were added.
+fn keep_all(index: &Index, writer: &mut Writer) -> u64
+    requires { writer.old.table ≡ index.now.table }
+    ensures { writer.new.table ≡ index.now.table }
+{
+    let mut done = 0u64;
+    for n in 0..KEPT {
+        if put(index, writer, kept_key(n), n) {
+            done = done.saturating_add(1);
+        }
+    }
+    done
 }
 
 /// Adds each key, and answers how many were added.
@@ -56,6 +78,8 @@ struct Tally {
     found: u64,
     absent: u64,
     again: u64,
+    /// Of keys that are there all the while: found.
+    kept: u64,
     wrong: u64,
     /// How many of the first changes the answers so far show to be made.
     seen: u64,
@@ -95,7 +119,23 @@ impl Tally {
     }
 }
 
-/// Looks keys up 20,000 times, and answers what came.
+impl Tally {
+    /// Counts an answer on the key that stays with this number.
+    fn count_kept(&mut self, n: u64, look: Look) {
+        match look {
+            Look::Found(looked) => {
+                self.kept = self.kept.saturating_add(1);
+                if looked.value != Some(n) {
+                    self.wrong = self.wrong.saturating_add(1);
+                }
+            }
+            Look::Absent(_) => self.wrong = self.wrong.saturating_add(1),
+            Look::Again { .. } => self.again = self.again.saturating_add(1),
+        }
+    }
+}
+
+/// Looks keys up 20,000 times, and as often one that is there all the while, and answers what came.
 fn look_all(index: &Index, mut reader: Reader) -> Tally
     requires { reader.table ≡ index.now.table }
 {
@@ -103,6 +143,8 @@ fn look_all(index: &Index, mut reader: Reader) -> Tally
     for n in 0..20_000u64 {
         let c = n * 31 % KEYS;
         tally.count(c, reader.try_get(index, key(u128::from(added_key(c)))));
+        let kept = reader.try_get(index, key(u128::from(kept_key(n))));
+        tally.count_kept(n % KEPT, kept);
     }
     tally
 }
@@ -113,6 +155,7 @@ fn readers_beside_the_writer(rt: HostRuntime) {
     let Ok((index, mut writer)) = Index::empty(alloc, 0, 4096) else {
         panic!(rt; "memory");
     };
+    let kept = keep_all(&index, &mut writer);
     let Ok(one) = writer.reader(&index) else {
         panic!(rt; "memory");
     };
@@ -126,9 +169,10 @@ fn readers_beside_the_writer(rt: HostRuntime) {
             requires { (one.table ≡ index.table) × (two.table ≡ index.table) }
         { thread::join(&rt, || look_all(&index, one), || look_all(&index, two)) },
     );
-    assert!(rt; done == 2 * KEYS && a.wrong == 0 && b.wrong == 0);
+    assert!(rt; kept == KEPT && done == 2 * KEYS && a.wrong == 0 && b.wrong == 0);
+    assert!(rt; a.kept > 0 && b.kept > 0);
     let Ok(all) = index.finish(alloc, writer, Vec::new(alloc)) else {
         panic!(rt; "memory");
     };
-    assert!(rt; all.is_empty());
+    assert!(rt; all.len() as u64 == KEPT);
 }

@@ -8,6 +8,7 @@ use Rattle.olfit_change.specs.Room.{IsFullBetween}
 use Rattle.olfit_change.specs.States.{IsChangedAt, IsFreeFrom, IsLinking, IsSplitAt, MayPut, SameFrom}
 use Rattle.olfit_change.proofs.Climbs.{climbed, may_link, was, works_linked}
 use Rattle.olfit_change.proofs.Links.{free_grown, grown_root, low_grown, same_none}
+use Rattle.olfit_change.proofs.Told.{clean_grown, told_grown}
 use Rattle.olfit_change.proofs.Weights.{Pays, paid_grown, paid_linked, pays_first, pays_root, pays_split}
 use Rattle.olfit_change.proofs.Needed.{full_none, full_on, needs_all, needs_at, needs_more, needs_root}
 use Rattle.olfit_change.proofs.Ready.{few_at, ready_still, same_on}
@@ -22,7 +23,7 @@ put_entry-requires-clause-may c =
 pub returns-then-count-lt-ENTRIES-clause-works : goal.returns-then-count-lt-ENTRIES-clause-works
 returns-then-count-lt-ENTRIES-clause-works c =
     works_linked _ _ c.loop-above.used c.loop-above.me c.put_entry.new.me c.loop-above.above c.args.key c.node_at-node.result.0 c.loop-above.link c.loop-above.invariant.ready c.put_entry.ensures.ready c.loop-above.invariant.linking c.node_at-node.ensures.node.0
-    (subst (λ (v : View). IsChangedAt c.node_at-node.result.0 [] v c.put_entry.new.me.me.0) c.node_at-node.ensures.same.1 c.put_entry.ensures.changed)
+    (subst (λ (v : View). IsChangedAt c.node_at-node.result.0 [] v c.put_entry.new.me.me.0) c.node_at-node.ensures.same.1 c.put_entry.ensures.changed) c.put_entry.ensures.entry
 
 pub returns-then-count-lt-ENTRIES-clause-used : goal.returns-then-count-lt-ENTRIES-clause-used
 returns-then-count-lt-ENTRIES-clause-used c =
@@ -64,7 +65,7 @@ loop-above-preserved c =
     let s = subst (λ (v : View). IsSplitAt c.node_at-node.result.0 c.split_node-link.result [] v c.split_node-link.new.me.me.0) c.node_at-node.ensures.same.1 c.split_node-link.ensures.split in
     let within : c.loop-above.used < length c.loop-above.me.me.0.seen.image = (let here = c.loop-above.invariant.ready.count in let some : c.loop-above.used < c.args.nodes = (let most' = needs_more c.args.me.now.me.0.base c.args.me.now.me.0.seen 1 c.top-top.result (c.loop-above.above + 1) c.args.key c.requires.room.0 c.requires.ready.good c.top-top.ensures.top (omega arith) full c.requires.room.1 in let have = c.requires.room.2 in let used' = c.loop-above.invariant.used in omega (arith, most', have, used')) in omega (arith, here, some)) in
     let size : length c.split_node-link.new.me.me.0.seen.image ≡ length c.loop-above.me.me.0.seen.image = c.split_node-link.ensures.ready.count ∙ sym c.loop-above.invariant.ready.count in
-    let k = climbed c.args.me.now.me.0.seen c.loop-above.me.me.0 c.split_node-link.new.me.me.0 c.loop-above.above c.args.key c.top-top.result c.node_at-node.result.0 c.loop-above.link c.split_node-link.result c.loop-above.used c.loop-above.invariant.ready.good c.loop-above.invariant.linking at.0 at.1 s c.split_node-link.ensures.link within size c.loop-above.invariant.upper c.loop-above.invariant.root in
+    let k = climbed c.args.me.now.me.0.seen c.loop-above.me.me.0 c.split_node-link.new.me.me.0 c.loop-above.above c.args.key c.top-top.result c.node_at-node.result.0 c.loop-above.link c.split_node-link.result c.loop-above.used c.loop-above.invariant.ready.good c.loop-above.invariant.linking at.0 at.1 s c.split_node-link.ensures.link within size c.loop-above.invariant.upper c.loop-above.invariant.root c.split_node-link.ensures.entry in
     let used = c.loop-above.invariant.used in record {
       ready = c.split_node-link.ensures.ready;
       same = same_on c.args.me.now c.node_at-node.new.me c.split_node-link.new.me (same_on c.args.me.now c.loop-above.me c.node_at-node.new.me c.loop-above.invariant.same c.node_at-node.ensures.same.0) c.split_node-link.ensures.same;
@@ -93,9 +94,13 @@ returns-clause-works c =
     let all = needs_all c.args.me.now.me.0.seen 1 c.top-top.result c.args.key c.requires.room.0 c.top-top.ensures.top (subst (λ (u : ℕ). IsFullBetween c.args.me.now.me.0.seen 1 u c.args.key) end c.loop-above.invariant.full) c.requires.room.1 in
     let have = c.requires.room.2 in let used = c.loop-above.invariant.used in
     let within : c.loop-above.used < length c.loop-above.me.me.0.seen.image = (let here = c.loop-above.invariant.ready.count in omega (arith, here, end, all, have, used)) in
+    let child = c.loop-above.invariant.linking.child in let up = child.1 in let under : child.0 ≡ c.top-top.result = omega (arith, end, up) in
+    let linked = subst (λ (m : ℕ). IsAt c.loop-above.me.me.0.seen m c.loop-above.link.node) under child.2 in
     let size : length c.grow.new.me.me.0.seen.image ≡ length c.loop-above.me.me.0.seen.image = c.grow.ensures.ready.count ∙ sym c.loop-above.invariant.ready.count in record {
       ready = c.grow.ensures.ready;
       free = free_grown c.loop-above.me.me.0 c.grow.new.me.me.0 c.top-top.result c.loop-above.used c.grow.ensures.grown c.loop-above.invariant.ready.good c.loop-above.invariant.root c.loop-above.invariant.linking.free within size;
+      told = told_grown c.loop-above.me.me.0 c.grow.new.me.me.0 c.top-top.result c.loop-above.used c.loop-above.link c.grow.ensures.grown c.loop-above.invariant.ready.good c.loop-above.invariant.root c.loop-above.invariant.linking.free within size c.grow.ensures.over linked child.3 c.loop-above.invariant.linking.told;
+      clean = clean_grown c.loop-above.me.me.0 c.grow.new.me.me.0 c.top-top.result c.loop-above.used c.loop-above.link c.grow.ensures.grown c.loop-above.invariant.ready.good c.loop-above.invariant.root c.loop-above.invariant.linking.free within size c.loop-above.invariant.linking.clean;
       versions = low_grown c.loop-above.me.me.0 c.grow.new.me.me.0 c.top-top.result c.loop-above.used c.grow.ensures.grown c.loop-above.invariant.ready.good c.loop-above.invariant.root c.loop-above.invariant.linking.free within size c.loop-above.invariant.linking.versions c.loop-above.invariant.linking.some.1;
     }
 

@@ -8,7 +8,7 @@ use Rattle.olfit_walk.proofs.Finds.{found_value, absent_value}
 use Rattle.olfit_change.specs.Room.{IsPaid, weights}
 use Rattle.olfit_change.proofs.Weights.{paid_taken}
 use Rattle.olfit_change.specs.States.{IsChangedAt}
-use Rattle.olfit_change.proofs.Climbs.{works_changed}
+use Rattle.olfit_change.proofs.Climbs.{works_changed, works_still}
 use Rattle.olfit_change.proofs.Founds.{found_key}
 use Rattle.olfit_change.proofs.Ready.{few_at, rises_at}
 use Rattle.olfit_change.proofs.keys.take.Goals as goal
@@ -66,3 +66,6 @@ returns-in-Some-clause-paid c used keys p =
 
 pub returns-in-None-clause-paid : goal.returns-in-None-clause-paid
 returns-in-None-clause-paid c used keys p = subst (λ (v : View). IsPaid used keys v.seen) (sym c.node_at-leaf.ensures.same.1) p
+
+pub returns-in-None-clause-works : goal.returns-in-None-clause-works
+returns-in-None-clause-works c used works = works_still _ _ used c.args.me.now c.node_at-leaf.new.me works c.node_at-leaf.ensures.same

@@ -1,13 +1,14 @@
 use Rattle.std.proofs.Common.{◌∙◌, [], ℕ, List, length, get_or, arith, sym, ap, subst}
+use Rattle.std.specs.List.{Contains}
 use Rattle.olfit_nodes.specs.declared.head.Link.{Link}
 use Rattle.olfit_nodes.specs.Nodes.{Entry, count_of, level_of, right_of}
 use Rattle.olfit_nodes.proofs.Frames.{same_right}
 use Rattle.olfit_rule.specs.declared.view.View.{View}
 use Rattle.olfit_rule.specs.Tree.{node_of, Good, Lasts, version}
 use Rattle.olfit_rule.specs.Rule.{rewritten, after_rewrite}
-use Rattle.olfit_change.specs.States.{IsSplitAt}
+use Rattle.olfit_change.specs.States.{IsSplitAt, both_entries}
 use Rattle.olfit_change.proofs.Fills.{good_filled, lasts_filled, words_filled}
-use Rattle.olfit_change.proofs.Splits.{halves_are, upper_some, right_linked, good_second, lasts_second, split_done}
+use Rattle.olfit_change.proofs.Splits.{halves_are, upper_some, right_linked, good_second, lasts_second, split_done, split_entry}
 use Rattle.olfit_change.proofs.Ready.{level_at, long_from, ready_twice}
 use Rattle.olfit_change.proofs.nodes.split_node.Goals as goal
 
@@ -62,7 +63,7 @@ rewrite-requires-2-clause-good g c =
     let halves = halves_are (node_of c.args.me.now.me.0.seen.image c.args.node) c.args.words c.split-upper.new.words c.made-filled.result c.set_right.new.words c.split-upper.result.items c.place_of-place.result c.args.key c.args.value link
     c.requires.words c.place_of-place.ensures c.split-upper.ensures.frame c.split-upper.ensures.lower c.split-upper.ensures.upper c.requires.full (ap (λ (xs : List Entry). (get_or xs 0 (0, 0)).0) c.deref.ensures.0)
     c.made-filled.ensures.low (c.made-filled.ensures.right ∙ c.right.ensures) (c.made-filled.ensures.level ∙ c.level.ensures) (c.made-filled.ensures.entries ∙ c.as_slice.ensures.value)
-    c.set_right.ensures.right c.set_right.ensures.low c.set_right.ensures.level c.set_right.ensures.entries in
+    c.set_right.ensures.right c.set_right.ensures.low c.set_right.ensures.level c.set_right.ensures.entries c.made-filled.ensures.clear c.set_right.ensures.clear in
     let full = sym (ap count_of c.requires.words) ∙ c.requires.full in
     let second = good_second c.args.me.now.me.0 g.C.Noted.changes c.args.node c.args.key c.args.value link c.made-filled.result c.set_right.new.words c.requires.ready.good c.requires.may (let room = c.requires.free.1 in let count = c.requires.ready.count in omega (arith, room, count)) (λ l h. let x = c.requires.free.0.linked l c.args.fresh h in omega (arith, x)) full halves in
     subst (λ (w : View). Good w.base (rewritten c.args.node c.set_right.new.words g.C.Noted.changes w.seen)) (sym c.rewrite.ensures.view) second
@@ -73,7 +74,7 @@ rewrite-requires-2-clause-lasts g c =
     let halves = halves_are (node_of c.args.me.now.me.0.seen.image c.args.node) c.args.words c.split-upper.new.words c.made-filled.result c.set_right.new.words c.split-upper.result.items c.place_of-place.result c.args.key c.args.value link
     c.requires.words c.place_of-place.ensures c.split-upper.ensures.frame c.split-upper.ensures.lower c.split-upper.ensures.upper c.requires.full (ap (λ (xs : List Entry). (get_or xs 0 (0, 0)).0) c.deref.ensures.0)
     c.made-filled.ensures.low (c.made-filled.ensures.right ∙ c.right.ensures) (c.made-filled.ensures.level ∙ c.level.ensures) (c.made-filled.ensures.entries ∙ c.as_slice.ensures.value)
-    c.set_right.ensures.right c.set_right.ensures.low c.set_right.ensures.level c.set_right.ensures.entries in
+    c.set_right.ensures.right c.set_right.ensures.low c.set_right.ensures.level c.set_right.ensures.entries c.made-filled.ensures.clear c.set_right.ensures.clear in
     let full = sym (ap count_of c.requires.words) ∙ c.requires.full in
     let second = lasts_second c.args.me.now.me.0 g.C.Noted.changes c.args.node c.args.key c.args.value link c.made-filled.result c.set_right.new.words c.requires.ready.good c.requires.may (let room = c.requires.free.1 in let count = c.requires.ready.count in omega (arith, room, count)) (λ l h. let x = c.requires.free.0.linked l c.args.fresh h in omega (arith, x)) full halves in
     subst (λ (w : View). Lasts w.seen (rewritten c.args.node c.set_right.new.words g.C.Noted.changes w.seen)) (sym c.rewrite.ensures.view) second
@@ -84,7 +85,7 @@ returns-clause-ready g c =
     let halves = halves_are (node_of c.args.me.now.me.0.seen.image c.args.node) c.args.words c.split-upper.new.words c.made-filled.result c.set_right.new.words c.split-upper.result.items c.place_of-place.result c.args.key c.args.value link
     c.requires.words c.place_of-place.ensures c.split-upper.ensures.frame c.split-upper.ensures.lower c.split-upper.ensures.upper c.requires.full (ap (λ (xs : List Entry). (get_or xs 0 (0, 0)).0) c.deref.ensures.0)
     c.made-filled.ensures.low (c.made-filled.ensures.right ∙ c.right.ensures) (c.made-filled.ensures.level ∙ c.level.ensures) (c.made-filled.ensures.entries ∙ c.as_slice.ensures.value)
-    c.set_right.ensures.right c.set_right.ensures.low c.set_right.ensures.level c.set_right.ensures.entries in
+    c.set_right.ensures.right c.set_right.ensures.low c.set_right.ensures.level c.set_right.ensures.entries c.made-filled.ensures.clear c.set_right.ensures.clear in
     let full = sym (ap count_of c.requires.words) ∙ c.requires.full in
     let second = good_second c.args.me.now.me.0 g.C.Noted.changes c.args.node c.args.key c.args.value link c.made-filled.result c.set_right.new.words c.requires.ready.good c.requires.may (let room = c.requires.free.1 in let count = c.requires.ready.count in omega (arith, room, count)) (λ l h. let x = c.requires.free.0.linked l c.args.fresh h in omega (arith, x)) full halves in
     let view = c.rewrite-2.ensures.view ∙ ap (λ (w : View). after_rewrite c.args.node c.set_right.new.words g.C.Noted.changes w) c.rewrite.ensures.view in
@@ -97,8 +98,19 @@ returns-clause-split g c =
     let halves = halves_are (node_of c.args.me.now.me.0.seen.image c.args.node) c.args.words c.split-upper.new.words c.made-filled.result c.set_right.new.words c.split-upper.result.items c.place_of-place.result c.args.key c.args.value link
     c.requires.words c.place_of-place.ensures c.split-upper.ensures.frame c.split-upper.ensures.lower c.split-upper.ensures.upper c.requires.full (ap (λ (xs : List Entry). (get_or xs 0 (0, 0)).0) c.deref.ensures.0)
     c.made-filled.ensures.low (c.made-filled.ensures.right ∙ c.right.ensures) (c.made-filled.ensures.level ∙ c.level.ensures) (c.made-filled.ensures.entries ∙ c.as_slice.ensures.value)
-    c.set_right.ensures.right c.set_right.ensures.low c.set_right.ensures.level c.set_right.ensures.entries in
+    c.set_right.ensures.right c.set_right.ensures.low c.set_right.ensures.level c.set_right.ensures.entries c.made-filled.ensures.clear c.set_right.ensures.clear in
     let full = sym (ap count_of c.requires.words) ∙ c.requires.full in
     let long = c.set_right.array_long in
     let view = c.rewrite-2.ensures.view ∙ ap (λ (w : View). after_rewrite c.args.node c.set_right.new.words g.C.Noted.changes w) c.rewrite.ensures.view in
     subst (IsSplitAt c.args.node link g.C.Noted.changes c.args.me.now.me.0) (sym view) (split_done c.args.me.now.me.0 g.C.Noted.changes c.args.node c.args.key c.args.value link c.made-filled.result c.set_right.new.words c.requires.ready.good c.requires.may (let room = c.requires.free.1 in let count = c.requires.ready.count in omega (arith, room, count)) (λ l h. let x = c.requires.free.0.linked l c.args.fresh h in omega (arith, x)) full halves (long_from c.args.me.now.me.0 c.rewrite.new.me.me.0 c.args.fresh c.made-filled.result [] (let room = c.requires.free.1 in let count = c.requires.ready.count in omega (arith, room, count)) c.rewrite.ensures.view c.rewrite.ensures.same.1) (omega (arith, long)))
+
+pub returns-clause-entry : goal.returns-clause-entry
+returns-clause-entry g c =
+    let link : Link = record { key = (get_or c.deref.result.now 0 (0, 0)).0; node = c.args.fresh } in
+    let halves = halves_are (node_of c.args.me.now.me.0.seen.image c.args.node) c.args.words c.split-upper.new.words c.made-filled.result c.set_right.new.words c.split-upper.result.items c.place_of-place.result c.args.key c.args.value link
+    c.requires.words c.place_of-place.ensures c.split-upper.ensures.frame c.split-upper.ensures.lower c.split-upper.ensures.upper c.requires.full (ap (λ (xs : List Entry). (get_or xs 0 (0, 0)).0) c.deref.ensures.0)
+    c.made-filled.ensures.low (c.made-filled.ensures.right ∙ c.right.ensures) (c.made-filled.ensures.level ∙ c.level.ensures) (c.made-filled.ensures.entries ∙ c.as_slice.ensures.value)
+    c.set_right.ensures.right c.set_right.ensures.low c.set_right.ensures.level c.set_right.ensures.entries c.made-filled.ensures.clear c.set_right.ensures.clear in
+    let full = sym (ap count_of c.requires.words) ∙ c.requires.full in
+    let view = c.rewrite-2.ensures.view ∙ ap (λ (w : View). after_rewrite c.args.node c.set_right.new.words g.C.Noted.changes w) c.rewrite.ensures.view in
+    subst (λ (w : View). Contains (both_entries w.seen c.args.node link) (c.args.key, c.args.value)) (sym view) (split_entry c.args.me.now.me.0 g.C.Noted.changes c.args.node c.args.key c.args.value link c.made-filled.result c.set_right.new.words c.requires.ready.good c.requires.may (let room = c.requires.free.1 in let count = c.requires.ready.count in omega (arith, room, count)) (λ l h. let x = c.requires.free.0.linked l c.args.fresh h in omega (arith, x)) full halves)

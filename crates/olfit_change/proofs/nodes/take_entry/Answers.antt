@@ -31,7 +31,7 @@ returns-clause-ready g c =
 pub returns-clause-changed : goal.returns-clause-changed
 returns-clause-changed g c =
     let r = takes c.args.me.now.me.0 c.args.leaf c.args.place c.args.words c.remove_at-value.new.words g.C.Noted.changes c.requires.ready.good c.requires.leaf c.requires.words c.requires.inside c.remove_at-value.ensures.frame c.remove_at-value.ensures.entries c.requires.drops in
-    changed_by c.args.me.now.me.0 c.rewrite.new.me.me.0 c.args.leaf c.remove_at-value.new.words g.C.Noted.changes c.requires.leaf.0 (let long = c.remove_at-value.array_long in omega (arith, long)) c.rewrite.ensures.view r.levels r.right
+    changed_by c.args.me.now.me.0 c.rewrite.new.me.me.0 c.args.leaf c.remove_at-value.new.words g.C.Noted.changes c.requires.leaf.0 (let long = c.remove_at-value.array_long in omega (arith, long)) c.rewrite.ensures.view r.levels r.right r.low r.kept r.clear
 
 pub returns-clause-value : goal.returns-clause-value
 returns-clause-value g c = c.remove_at-value.ensures.value ∙ ap (λ (e : Entry). e.1) (get_or-entries c.args.words c.args.place (0, 0) c.requires.inside)
@@ -39,7 +39,7 @@ returns-clause-value g c = c.remove_at-value.ensures.value ∙ ap (λ (e : Entry
 pub returns-clause-lighter : goal.returns-clause-lighter
 returns-clause-lighter g c =
     let r = takes c.args.me.now.me.0 c.args.leaf c.args.place c.args.words c.remove_at-value.new.words g.C.Noted.changes c.requires.ready.good c.requires.leaf c.requires.words c.requires.inside c.remove_at-value.ensures.frame c.remove_at-value.ensures.entries c.requires.drops in
-    let changed = changed_by c.args.me.now.me.0 c.rewrite.new.me.me.0 c.args.leaf c.remove_at-value.new.words g.C.Noted.changes c.requires.leaf.0 (let long = c.remove_at-value.array_long in omega (arith, long)) c.rewrite.ensures.view r.levels r.right in
+    let changed = changed_by c.args.me.now.me.0 c.rewrite.new.me.me.0 c.args.leaf c.remove_at-value.new.words g.C.Noted.changes c.requires.leaf.0 (let long = c.remove_at-value.array_long in omega (arith, long)) c.rewrite.ensures.view r.levels r.right r.low r.kept r.clear in
     let by = count_by c.args.me.now.me.0 c.rewrite.new.me.me.0 c.args.leaf c.remove_at-value.new.words g.C.Noted.changes c.requires.leaf.0 c.rewrite.ensures.view in
     let xs : List Entry = entries_of c.args.words in
     let a = length-entries c.remove_at-value.new.words in let b = length-entries c.args.words in let inside = c.requires.inside in

@@ -2,7 +2,7 @@ use Rattle.std.proofs.Common.{◌∙◌, List, arith, ap, length}
 use Rattle.std.proofs.lemmas.List.{length-take-le, get_or_default}
 use Rattle.olfit_nodes.specs.Nodes.{Entry}
 use Rattle.olfit_nodes.proofs.Places.{length-entries, pushed}
-use Rattle.olfit_nodes.proofs.Frames.{same_low, same_right}
+use Rattle.olfit_nodes.proofs.Frames.{same_low, same_right, same_word}
 use Rattle.olfit_nodes.proofs.head.made.Goals as goal
 
 pub insert_at-requires-clause-room : goal.insert_at-requires-clause-room
@@ -23,4 +23,6 @@ loop-place-preserved c =
       right = same_right old new c.insert_at.ensures.frame ∙ inv.right;
       level = c.insert_at.ensures.frame.level ∙ inv.level;
       entries = pushed old new xs p _ inv.entries (omega arith) c.insert_at.ensures.entries (λ d. get_or_default xs p d (0, 0) (omega arith));
+      version = same_word old new 0 c.insert_at.ensures.frame (omega arith) ∙ inv.version;
+      clear = c.insert_at.ensures.frame.rest ∙ inv.clear;
     }

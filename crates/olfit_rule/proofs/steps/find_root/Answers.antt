@@ -16,8 +16,8 @@ load-requires c =
 
 pub returns-clause-seat : goal.returns-clause-seat
 returns-clause-seat c =
-    let l = c.load.ensures.2.1 (ap (λ (n : ℕ). n * 64) (sym c.requires.sized.0)) (subst (λ (n : ℕ). 0 < n) (sym c.requires.sized.0) c.requires.sized.1) in
-    record { table = c.load.ensures.0; id = c.load.ensures.1; slots = c.load.ensures.2.0; writes = l.moved.writes; base = l.moved.kept.2; later = l.moved.later; told = l.moved.told; kept = l.moved.kept.1 }
+    let l = c.load.ensures.2.1 (ap (λ (n : ℕ). n * 64) (sym c.requires.sized.0)) (subst (λ (n : ℕ). 0 < n) (sym c.requires.sized.0) c.requires.sized.1) in let n = l.loads in
+    record { table = c.load.ensures.0; id = c.load.ensures.1; slots = c.load.ensures.2.0; writes = l.moved.writes; base = l.moved.kept.2; later = l.moved.later; told = l.moved.told; kept = l.moved.kept.1; loads = omega (arith, n) }
 
 pub returns-clause-good : goal.returns-clause-good
 returns-clause-good c =

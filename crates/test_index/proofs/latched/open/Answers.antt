@@ -3,8 +3,8 @@ use Rattle.std.proofs.lemmas.List.{length-replicate}
 use Rattle.olfit_rule.specs.declared.view.View.{View}
 use Rattle.olfit_rule.specs.Rule.{opener, IsAtRest}
 use Rattle.olfit_rule.specs.Tree.{Good}
-use Rattle.olfit_change.specs.States.{IsFreeFrom, HasLowVersions}
-use Rattle.olfit_tree.proofs.Zeros.{can_open, free_zeros, good_zeros, low_zeros, nodes_long, rest_zeros, zeros_are}
+use Rattle.olfit_change.specs.States.{IsFreeFrom, IsTold, IsClean, HasLowVersions}
+use Rattle.olfit_tree.proofs.Zeros.{can_open, clean_zeros, free_zeros, good_zeros, low_zeros, nodes_long, rest_zeros, told_zeros, zeros_are}
 use Rattle.test_index.proofs.latched.open.Goals as goal
 
 pub opened-requires : goal.opened-requires
@@ -29,6 +29,8 @@ returns-clause-works c =
         sized = (omega arith, omega arith, c.in_ok-memory.ensures.table.1 ∙ long);
       };
       free = subst (λ (v : View). IsFreeFrom 1 v.seen) (sym m) (free_zeros c.in_ok-words.words.items 8 all long (omega arith));
+      told = subst (λ (v : View). IsTold v.seen) (sym m) (told_zeros c.in_ok-words.words.items 8 all long (omega arith));
+      clean = subst (λ (v : View). IsClean v.seen) (sym m) (clean_zeros c.in_ok-words.words.items 8 all long (omega arith));
       versions = subst (λ (v : View). HasLowVersions v.seen) (sym m) (low_zeros c.in_ok-words.words.items 8 all long (omega arith));
     }
 

@@ -6,8 +6,9 @@ use Rattle.olfit_rule.specs.declared.view.View.{View}
 use Rattle.olfit_rule.specs.Rule.{opener, IsAtRest}
 use Rattle.olfit_rule.specs.Tree.{Good}
 use Rattle.olfit_change.specs.Room.{IsPaid}
-use Rattle.olfit_change.specs.States.{IsFreeFrom, HasLowVersions}
-use Rattle.olfit_tree.proofs.Zeros.{base_is, can_open, free_zeros, good_zeros, low_zeros, nodes_long, paid_zeros, rest_zeros, zeros_are}
+use Rattle.olfit_change.specs.States.{IsFreeFrom, IsTold, IsClean, HasLowVersions}
+use Rattle.olfit_tree.specs.Index.{IsNew}
+use Rattle.olfit_tree.proofs.Zeros.{base_is, can_open, clean_zeros, free_zeros, good_zeros, low_zeros, new_zeros, nodes_long, paid_zeros, rest_zeros, told_zeros, zeros_are}
 use Rattle.olfit_tree.proofs.index.Index.empty.Goals as goal
 
 pub opened-requires : goal.opened-requires
@@ -33,6 +34,8 @@ invariant_of-writer c =
           sized = (c.requires, omega arith, ap (λ (t : TableId). t.words) c.in_ok-memory.ensures.table.0 ∙ (c.in_ok-memory.ensures.table.1 ∙ long));
         };
         free = subst (λ (v : View). IsFreeFrom 1 v.seen) (sym m) (free_zeros c.in_ok-words.words.items c.args.nodes all long c.requires);
+        told = subst (λ (v : View). IsTold v.seen) (sym m) (told_zeros c.in_ok-words.words.items c.args.nodes all long c.requires);
+        clean = subst (λ (v : View). IsClean v.seen) (sym m) (clean_zeros c.in_ok-words.words.items c.args.nodes all long c.requires);
         versions = subst (λ (v : View). HasLowVersions v.seen) (sym m) (low_zeros c.in_ok-words.words.items c.args.nodes all long c.requires);
       };
       counted = sym (ap (λ (v : View). length v.seen.log) m);
@@ -48,3 +51,27 @@ returns-clause-none c =
     let long : length c.in_ok-words.words.items ≡ c.args.nodes * 64 + 1 = ap (λ (l : List ℕ). length l) zero ∙ length-replicate (c.args.nodes * 64 + 1) 0 in
     let m : c.in_ok-memory.hand.me.0 ≡ opener c.in_ok-words.words.items = ap (λ x. x.0) c.in_ok-memory.ensures.writer in
     (ap (λ (v : View). v.base) m ∙ base_is c.in_ok-words.words.items c.args.nodes all long c.requires, ap (λ (v : View). v.seen.log) m, refl, refl)
+
+pub returns-clause-new : goal.returns-clause-new
+returns-clause-new c =
+    let zero : c.in_ok-words.words.items ≡ replicate (c.args.nodes * 64 + 1) 0 = c.in_ok-words.ensures.items_if_clones_equal (λ y e. e) in
+    let all = zeros_are (c.args.nodes * 64 + 1) c.in_ok-words.words.items zero in
+    let long : length c.in_ok-words.words.items ≡ c.args.nodes * 64 + 1 = ap (λ (l : List ℕ). length l) zero ∙ length-replicate (c.args.nodes * 64 + 1) 0 in
+    let m : c.in_ok-memory.hand.me.0 ≡ opener c.in_ok-words.words.items = ap (λ x. x.0) c.in_ok-memory.ensures.writer in
+    subst (λ (v : View). IsNew v.seen) (sym m) (new_zeros c.in_ok-words.words.items c.args.nodes all long c.requires)
+
+pub returns-clause-told : goal.returns-clause-told
+returns-clause-told c =
+    let zero : c.in_ok-words.words.items ≡ replicate (c.args.nodes * 64 + 1) 0 = c.in_ok-words.ensures.items_if_clones_equal (λ y e. e) in
+    let all = zeros_are (c.args.nodes * 64 + 1) c.in_ok-words.words.items zero in
+    let long : length c.in_ok-words.words.items ≡ c.args.nodes * 64 + 1 = ap (λ (l : List ℕ). length l) zero ∙ length-replicate (c.args.nodes * 64 + 1) 0 in
+    let m : c.in_ok-memory.hand.me.0 ≡ opener c.in_ok-words.words.items = ap (λ x. x.0) c.in_ok-memory.ensures.writer in
+    subst (λ (v : View). IsTold v.seen) (sym m) (told_zeros c.in_ok-words.words.items c.args.nodes all long c.requires)
+
+pub returns-clause-clean : goal.returns-clause-clean
+returns-clause-clean c =
+    let zero : c.in_ok-words.words.items ≡ replicate (c.args.nodes * 64 + 1) 0 = c.in_ok-words.ensures.items_if_clones_equal (λ y e. e) in
+    let all = zeros_are (c.args.nodes * 64 + 1) c.in_ok-words.words.items zero in
+    let long : length c.in_ok-words.words.items ≡ c.args.nodes * 64 + 1 = ap (λ (l : List ℕ). length l) zero ∙ length-replicate (c.args.nodes * 64 + 1) 0 in
+    let m : c.in_ok-memory.hand.me.0 ≡ opener c.in_ok-words.words.items = ap (λ x. x.0) c.in_ok-memory.ensures.writer in
+    subst (λ (v : View). IsClean v.seen) (sym m) (clean_zeros c.in_ok-words.words.items c.args.nodes all long c.requires)

@@ -2,7 +2,7 @@ use Rattle.std.proofs.Common.{◌≡◌, ◌∙◌, ◌+◌, ℕ, List, length, 
 use Rattle.olfit_nodes.specs.Nodes.{Entry}
 use Rattle.olfit_rule.specs.declared.view.Change.TheVariants.{Add}
 use Rattle.olfit_change.specs.Room.{IsPaid}
-use Rattle.olfit_tree.proofs.Works.{one_longer, works_own}
+use Rattle.olfit_tree.proofs.BetweenCalls.{one_longer, works_own}
 use Rattle.olfit_tree.proofs.writer.Writer.add.Goals as goal
 
 pub invariant_of-self : goal.invariant_of-self

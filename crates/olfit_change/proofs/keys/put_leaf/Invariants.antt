@@ -1,6 +1,6 @@
 use Rattle.std.proofs.Common.{[], ◌∷◌}
 use Rattle.olfit_rule.specs.declared.view.Change.TheVariants.{Add}
-use Rattle.olfit_change.proofs.keys.put.Given as goal
+use Rattle.olfit_change.proofs.keys.put_leaf.Given as goal
 
 abbrev pub ghosts-put_entry : goal.ghosts-put_entry
 ghosts-put_entry a = record { changes = Add a.key a.value ∷ [] }
