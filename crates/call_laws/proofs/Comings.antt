@@ -111,14 +111,14 @@ module _ (defs : List TableDef) (old new : List Call) (is : IsHistory defs new) 
   uncommitted_before asked stop before (inr (last, new_is, kept)) since more =
       since_between (λ call. not (is_commit call)) old before last kept since (tail_grown (Stopped asked stop) before last (but_last asked stop before last (subst (Grown (Stopped asked stop ∷ before)) new_is more)))
 
-  lacks_by : (reply : Reply) → CommitsLast old new → ReplyWasGiven defs old new reply → LacksBy defs (batches_of old) reply
+  lacks_by : (reply : Reply) → CommitsLast old new → ReplyWasGiven old new reply → LacksBy defs (batches_of old) reply
   lacks_by reply commits given = λ resource reply_is.
-      let gave : GaveSince (stops.Refused resource) old new = subst (ReplyWasGiven defs old new) reply_is given in
+      let gave : GaveSince (stops.Refused resource) old new = subst (ReplyWasGiven old new) reply_is given in
       let stopped = history_since defs (Stopped gave.asked (stops.Refused resource) ∷ gave.before) new gave.more is in
       let kept = uncommitted_before gave.asked (stops.Refused resource) gave.before commits gave.since gave.more in
       subst (λ (batches : List (List RowChange)). MayLackWith defs batches resource) (batches_kept old gave.before kept) (used_up_lacks defs gave.before gave.asked resource stopped.ordered.1)
 
-  all_lack : (replies : List Reply) → CommitsLast old new → AllByRecursion (ReplyWasGiven defs old new) replies → AllByRecursion (LacksBy defs (batches_of old)) replies
+  all_lack : (replies : List Reply) → CommitsLast old new → AllByRecursion (ReplyWasGiven old new) replies → AllByRecursion (LacksBy defs (batches_of old)) replies
   all_lack [] commits given = tt
   all_lack (reply ∷ replies) commits given = (lacks_by reply commits given.0, all_lack replies commits given.1)
 
@@ -166,16 +166,15 @@ spent_calls calls AskCommit limit place of spent = absurd spent
 spent_calls calls AskUndo limit place of spent = absurd spent
 
 module _ (defs : List TableDef) (old new : List Call) (is : IsHistory defs new) where
-  spent_by : (reply : Reply) → ReplyWasGiven defs old new reply → SpentBy new reply
+  spent_by : (reply : Reply) → ReplyWasGiven old new reply → SpentBy new reply
   spent_by reply given = λ limit reply_is.
-      let gives : (first : Tables) → PlaysFrom defs first new → GaveSince (stops.Spent limit) old new = subst (ReplyWasGiven defs old new) reply_is given in
-      let gave = gives (begun_at (empty_tables defs) new) (plays_from defs new is) in
+      let gave : GaveSince (stops.Spent limit) old new = subst (ReplyWasGiven old new) reply_is given in
       let stopped = history_since defs (Stopped gave.asked (stops.Spent limit) ∷ gave.before) new gave.more is in
       let spent = spent_calls gave.before gave.asked limit stopped.ordered.0 gave.placed stopped.ordered.1 in
       let longer = grown_longer (Stopped gave.asked (stops.Spent limit) ∷ gave.before) new gave.more in
       (spent.0, omega (arith, spent.1, longer))
 
-  all_spent : (replies : List Reply) → AllByRecursion (ReplyWasGiven defs old new) replies → AllByRecursion (SpentBy new) replies
+  all_spent : (replies : List Reply) → AllByRecursion (ReplyWasGiven old new) replies → AllByRecursion (SpentBy new) replies
   all_spent [] given = tt
   all_spent (reply ∷ replies) given = (spent_by reply given.0, all_spent replies given.1)
 
@@ -200,7 +199,7 @@ module _ (defs : List TableDef) (block : Block) (old : List Call) (replies : Lis
   abbrev E : Tables
   E = empty_tables defs
 
-  said_committed : (before : List Call) → Uncommitted old before → IsHistory defs (Committed ∷ before) → SaidWithin defs None block replies old (Committed ∷ before) → AllByRecursion (ReplyWasGiven defs old (Committed ∷ before)) replies
+  said_committed : (before : List Call) → Uncommitted old before → IsHistory defs (Committed ∷ before) → SaidWithin defs None block replies old (Committed ∷ before) → AllByRecursion (ReplyWasGiven old (Committed ∷ before)) replies
       → SaidBy defs block old replies (Committed ∷ before)
   said_committed before kept is said given =
       let new = Committed ∷ before in
@@ -218,7 +217,7 @@ module _ (defs : List TableDef) (block : Block) (old : List Call) (replies : Lis
   none_kept new (inl same) = subst (Uncommitted old) (sym same) here
   none_kept new (inr (stop, is)) = subst (Uncommitted old) (sym is) (then (Stopped (AskBegin None) stop) old refl here)
 
-  said_within : (new : List Call) → IsHistory defs new → last_batch old ≡ [] → CommitsLast old new → SaidWithin defs None block replies old new → AllByRecursion (ReplyWasGiven defs old new) replies → is_running new ≡ false
+  said_within : (new : List Call) → IsHistory defs new → last_batch old ≡ [] → CommitsLast old new → SaidWithin defs None block replies old new → AllByRecursion (ReplyWasGiven old new) replies → is_running new ≡ false
       → SaidBy defs block old replies new
   said_within new is none (inl kept) said given idle =
       let begun : begun_at E new ≡ settled E old = begun_kept E (Began None said.calls.0 ∷ old) new said.calls.1 in
@@ -234,10 +233,10 @@ module _ (defs : List TableDef) (block : Block) (old : List Call) (replies : Lis
       }
   said_within new is none (inr (before, new_is, kept)) said given idle =
       subst (SaidBy defs block old replies) (sym new_is)
-      (said_committed before kept (subst (IsHistory defs) new_is is) (subst (SaidWithin defs None block replies old) new_is said) (subst (λ (calls : List Call). AllByRecursion (ReplyWasGiven defs old calls) replies) new_is given))
+      (said_committed before kept (subst (IsHistory defs) new_is is) (subst (SaidWithin defs None block replies old) new_is said) (subst (λ (calls : List Call). AllByRecursion (ReplyWasGiven old calls) replies) new_is given))
 
   -- nothing was called, or a begin was refused
-  said_without : (new : List Call) → IsHistory defs new → last_batch old ≡ [] → CommitsLast old new → SaidWithout None block replies old new → AllByRecursion (ReplyWasGiven defs old new) replies → is_running new ≡ false
+  said_without : (new : List Call) → IsHistory defs new → last_batch old ≡ [] → CommitsLast old new → SaidWithout None block replies old new → AllByRecursion (ReplyWasGiven old new) replies → is_running new ≡ false
       → SaidBy defs block old replies new
   said_without new is none commits said given idle =
       let kept = none_kept new said.calls in
@@ -250,7 +249,7 @@ module _ (defs : List TableDef) (block : Block) (old : List Call) (replies : Lis
         ended = idle;
       }
 
-  said : (new : List Call) → IsHistory defs new → last_batch old ≡ [] → CommitsLast old new → BlockSaid defs None block replies old new → AllByRecursion (ReplyWasGiven defs old new) replies → is_running new ≡ false → SaidBy defs block old replies new
+  said : (new : List Call) → IsHistory defs new → last_batch old ≡ [] → CommitsLast old new → BlockSaid defs None block replies old new → AllByRecursion (ReplyWasGiven old new) replies → is_running new ≡ false → SaidBy defs block old replies new
   said new is none commits (inl without) given idle = said_without new is none commits without given idle
   said new is none commits (inr within) given idle = said_within new is none commits within given idle
 

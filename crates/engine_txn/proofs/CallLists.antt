@@ -7,7 +7,7 @@ use Rattle.plain_model.specs.Runs.{is_begin, is_row_call, Since, LocksFirst, End
 use Rattle.plain_model.specs.Runs as runs
 use Rattle.sql_exec.specs.Means.{LocksBy}
 use Rattle.engine_txn.specs.Transactions.{AllSince, here, then, Grown, Uncommitted, Continues, HasBegun, is_commit}
-use Rattle.engine_txn.specs.StatementRuns.{asks_rows, is_row_work, Works, WorksNot}
+use Rattle.engine_txn.specs.StatementRuns.{asks_rows, is_row_work, RowWork, NoRowWork}
 use Rattle.engine_txn.specs.Progress.{is_end}
 
 pub since_trans : (test : Call → Bool) (old mid new : List Call) → AllSince test old mid → AllSince test mid new → AllSince test old new
@@ -36,18 +36,37 @@ asks_are_rows AskCommit e = e
 asks_are_rows AskUndo e = e
 asks_are_rows AskCheckpoint e = e
 
-works_since : (old new : List Call) → Since old new → Works old new
+works_since : (old new : List Call) → Since old new → RowWork old new
 works_since old _ runs.here = here
 works_since old _ (runs.did op calls more) = then (Did op) calls refl (works_since old calls more)
 works_since old _ (runs.stopped asked stop calls is more) = then (Stopped asked stop) calls (asks_are_rows asked is) (works_since old calls more)
 
-works_first : (name : LockName) (mode : Mode) (old new : List Call) → LocksFirst name mode old new → Works old new
-works_first name mode old new (inl refused) = subst (Works old) (sym refused.1) (then (Stopped (AskLock name mode) refused.0) old refl here)
+works_first : (name : LockName) (mode : Mode) (old new : List Call) → LocksFirst name mode old new → RowWork old new
+works_first name mode old new (inl refused) = subst (RowWork old) (sym refused.1) (then (Stopped (AskLock name mode) refused.0) old refl here)
 works_first name mode old new (inr since) = since_trans is_row_work old (Locked name mode ∷ old) new (then (Locked name mode) old refl here) (works_since _ new since)
 
-pub works_by : (lock : Option LockName) (mode : Mode) (old new : List Call) → LocksBy lock mode old new → Works old new
-works_by None mode old new same = subst (Works old) (sym same) here
+pub works_by : (lock : Option LockName) (mode : Mode) (old new : List Call) → LocksBy lock mode old new → RowWork old new
+works_by None mode old new same = subst (RowWork old) (sym same) here
 works_by (Some name) mode old new first = works_first name mode old new first
+
+-- what follows a lock follows what came before it
+pub grown_first : (name : LockName) (mode : Mode) (old new : List Call) → Since (Locked name mode ∷ old) new → Grown old new
+grown_first name mode old new since = grown is_row_work old new (works_first name mode old new (inr since))
+
+-- the call gave a lock
+abbrev gives_lock : Call → Bool
+gives_lock (Locked name mode) = true
+gives_lock call = false
+
+-- calls behind a lock stand behind it without the last one too, where that isn't the lock
+pub past_lock : (name : LockName) (mode : Mode) (old : List Call) (call : Call) (before now : List Call) → gives_lock call ≡ false → now ≡ call ∷ before → Since (Locked name mode ∷ old) now → Since (Locked name mode ∷ old) before
+past_lock name mode old call before _ other e runs.here = absurd (let first : Locked name mode ≡ call = cc in let both : true ≡ false = ap gives_lock first ∙ other in cc)
+past_lock name mode old call before _ other e (runs.did op calls more) =
+    let same : calls ≡ before = cc in
+    subst (Since (Locked name mode ∷ old)) same more
+past_lock name mode old call before _ other e (runs.stopped asked stop calls is more) =
+    let same : calls ≡ before = cc in
+    subst (Since (Locked name mode ∷ old)) same more
 
 work_begins_not : (call : Call) → is_row_work call ≡ true → not (is_begin call) ≡ true
 work_begins_not (Began age number) e = absurd cc
@@ -67,10 +86,10 @@ work_commits_not (Did op) e = refl
 work_commits_not (Opened generation) e = refl
 work_commits_not (Stopped asked stop) e = refl
 
-pub works_continue : (old new : List Call) → Works old new → Continues old new
+pub works_continue : (old new : List Call) → RowWork old new → Continues old new
 works_continue old new works = since_weaker is_row_work (λ call. not (is_begin call)) old new work_begins_not works
 
-pub works_uncommitted : (old new : List Call) → Works old new → Uncommitted old new
+pub works_uncommitted : (old new : List Call) → RowWork old new → Uncommitted old new
 works_uncommitted old new works = since_weaker is_row_work (λ call. not (is_commit call)) old new work_commits_not works
 
 -- ---- A transaction's end
@@ -106,7 +125,7 @@ end_works_not (Stopped AskCheckpoint stop) e = absurd cc
 pub end_continues : (old new : List Call) → AllSince is_end old new → Continues old new
 end_continues old new ends = since_weaker is_end (λ call. not (is_begin call)) old new end_begins_not ends
 
-pub end_is_no_work : (old new : List Call) → AllSince is_end old new → WorksNot old new
+pub end_is_no_work : (old new : List Call) → AllSince is_end old new → NoRowWork old new
 end_is_no_work old new ends = since_weaker is_end (λ call. not (is_row_work call)) old new end_works_not ends
 
 -- ---- What stays through calls

@@ -3,5 +3,6 @@ mod Causes
 mod Endings
 mod Inside
 mod Outcomes
+mod Sources
 mod Tables
 mod Texts

@@ -16,23 +16,23 @@ use Rattle.plain_model.specs.declared.reply.Refusal.TheVariants as refusals
 use Rattle.plain_model.specs.declared.stop.Stop.{Stop}
 use Rattle.plain_model.specs.declared.stop.Stop.TheVariants as stops
 use Rattle.plain_model.specs.declared.stop.Resource.TheVariants.{Pages, Nodes, Txn, Locks, LogFull, Busy}
-use Rattle.plain_model.specs.Blocks.{IsNotBegun, IsPlain, block_means, without_block}
+use Rattle.plain_model.specs.Blocks.{IsNotBegun, block_means, without_block}
 use Rattle.plain_model.specs.Calls.{AskBegin, AskUndo, Call, Began, Undone, Stopped, is_running}
 use Rattle.plain_model.specs.Runs.{EndsBy, is_begin}
-use Rattle.plain_model.proofs.NothingUsedUp.{misplaced_plain}
 use Rattle.sql_exec.specs.Means.{IsOwnOrBy}
 use Rattle.engine_txn.specs.declared.begun.Begun.TheVariants.{Running}
 use Rattle.engine_txn.specs.declared.read.Read.TheVariants.{Allowed, Refused as NotRead}
 use Rattle.engine_txn.specs.declared.tried.Tried.{Tried}
 use Rattle.engine_txn.specs.declared.tried.Tried.TheVariants as tries
 use Rattle.engine_txn.specs.Transactions.{AllSince, here, then, CommitsLast, Continues, Grown, HasBegun, IsGivenUp, IsOneTry, Uncommitted, is_commit}
-use Rattle.engine_txn.specs.Steps.{Begins, Fails, FailsAs, GivesUp, RefusesBegin, RunsBehind}
+use Rattle.engine_txn.specs.Steps.{Begins, Fails, FailsAs, GivesUp, RefusesBegin, RunsBehind, Says}
+use Rattle.engine_txn.specs.BlockRuns.{MayBegin, TryGoes, replies_refused}
 use Rattle.engine_txn.specs.BlockSaid.{ReplyWasGiven, left_by}
 use Rattle.engine_txn.specs.StatementRuns.{RunsBlock, has_begin, is_row_work, texts_of}
-use Rattle.engine_txn.specs.Progress.{Answered, Broken, Ran, ReadAs, is_end, refused_as}
-use Rattle.engine_txn.specs.Tries.{Says, Tries}
+use Rattle.engine_txn.specs.Progress.{Answered, Broken, Ran, ReadAs, is_end}
+use Rattle.engine_txn.specs.Tries.{Tries}
 use Rattle.engine_txn.proofs.CallLists.{end_continues, end_is_no_work, grown, same_age, since_past, since_trans, works_continue}
-use Rattle.engine_txn.proofs.Causes.{all_given_on}
+use Rattle.engine_txn.proofs.Causes.{all_given_on, not_read_cause, reply_given}
 use Rattle.engine_txn.proofs.Endings.{all_no_block}
 use Rattle.engine_txn.proofs.Texts.{refused_answers, texts_none}
 
@@ -68,7 +68,7 @@ runs_behind_stop stops.OutOfMemory now cause = tt
 
 -- ---- A transaction was begun
 
-module _ (defs : List TableDef) (block : Block) (age : Option ℕ) (number : ℕ) (old : List Call) where
+module _ (defs : List TableDef) (block : Block) (begins : MayBegin block) (age : Option ℕ) (number : ℕ) (old : List Call) where
   abbrev begun : List Call
   begun = Began age number ∷ old
 
@@ -114,13 +114,14 @@ module _ (defs : List TableDef) (block : Block) (age : Option ℕ) (number : ℕ
   tried_said tries.OutOfMemory list new is answered = absurd is
   tried_said (tries.Died holder own) list new is answered = absurd is
   tried_said (tries.Said said) list new is answered = record {
+    goes = inr (inr (inl (record { begins = begins; number = number; replies = list; says = is; runs = answered.goes })));
     began = one_try new answered.ran;
     commits = commits_on new answered.commits;
     said = inr (record {
       calls = (number, ran_continues new answered.ran);
       means = λ first plays. subst (λ (l : List Reply). block_means block first l (left_by first new)) (sym is) (answered.means first plays);
     });
-    causes = subst (λ (l : List Reply). AllByRecursion (ReplyWasGiven defs old new) l) (sym is) (all_given_on defs old begun new new old_begun here list answered.causes);
+    causes = subst (λ (l : List Reply). AllByRecursion (ReplyWasGiven old new) l) (sym is) (all_given_on old begun new new old_begun here list answered.causes);
     calls = runs_block new answered.ran;
     stopped = tt;
     died = tt;
@@ -129,6 +130,16 @@ module _ (defs : List TableDef) (block : Block) (age : Option ℕ) (number : ℕ
   }
 
   -- it was given up
+  goes_up : (tried : Tried) (own : ℕ) (stop : Stop) (mid new : List Call) → own ≡ unwrap_or age number → Broken defs block begun stop mid → GivesUp own mid stop tried new → TryGoes defs age block old tried new
+  goes_up tried own stop mid new own_is broken gave = inr (inr (inr (record {
+    begins = begins;
+    number = number;
+    stop = stop;
+    last = mid;
+    broke = broken.broke;
+    gives = subst (λ (n : ℕ). GivesUp n mid stop tried new) own_is gave;
+  })))
+
   pub tried_given_up : (tried : Tried) (own : ℕ) (stop : Stop) (mid new : List Call) → own ≡ unwrap_or age number → Broken defs block begun stop mid → GivesUp own mid stop tried new → Tries defs age block old tried new
   tried_given_up (tries.Said said) own stop mid new own_is broken gave = absurd gave
   tried_given_up (tries.Died holder again) own stop mid new own_is broken (stop_is, again_is, undone) =
@@ -136,6 +147,7 @@ module _ (defs : List TableDef) (block : Block) (age : Option ℕ) (number : ℕ
       let ends = died_by holder mid (subst (IsOwnOrBy mid) stop_is broken.cause) in
       let goes = since_past (λ call. not (is_begin call)) (Stopped ends.asked (stops.Die holder)) begun ends.before mid has refl ends.last (ran_continues mid broken.ran) in
       record {
+        goes = goes_up (tries.Died holder again) own stop mid new own_is broken (stop_is, again_is, undone);
         began = one_try new ran;
         commits = inl (kept_on mid new broken.kept (given_up_kept mid new undone));
         said = tt;
@@ -157,6 +169,7 @@ module _ (defs : List TableDef) (block : Block) (age : Option ℕ) (number : ℕ
       let past = since_past (λ call. true) (Stopped ends.asked (stops.Fault file)) begun ends.before mid has refl ends.last (ran_grown mid broken.ran) in
       let ran = ran_on mid new broken.ran (subst (AllSince is_end mid) (sym same) here) in
       record {
+        goes = goes_up tries.Stopped own stop mid new own_is broken (file, inl (stop_is, same));
         began = one_try new ran;
         commits = inl (kept_on mid new broken.kept (subst (Uncommitted mid) (sym same) here));
         said = tt;
@@ -173,9 +186,10 @@ module _ (defs : List TableDef) (block : Block) (age : Option ℕ) (number : ℕ
         ended = tt;
         kept = tt;
       }
-  tried_given_up tries.Stopped own stop mid new own_is broken (file, inr is) =
+  tried_given_up tries.Stopped own stop mid new own_is broken (file, inr (behind, is)) =
       let ran = ran_on mid new broken.ran (subst (AllSince is_end mid) (sym is) (then (Stopped AskUndo (stops.Fault file)) mid refl here)) in
       record {
+        goes = goes_up tries.Stopped own stop mid new own_is broken (file, inr (behind, is));
         began = one_try new ran;
         commits = inl (kept_on mid new broken.kept (subst (Uncommitted mid) (sym is) (then (Stopped AskUndo (stops.Fault file)) mid refl here)));
         said = tt;
@@ -192,9 +206,10 @@ module _ (defs : List TableDef) (block : Block) (age : Option ℕ) (number : ℕ
         ended = tt;
         kept = tt;
       }
-  tried_given_up tries.OutOfMemory own stop mid new own_is broken (inl (idle, same)) =
+  tried_given_up tries.OutOfMemory own stop mid new own_is broken (inl (stop_is, inl (idle, same))) =
       let ran = ran_on mid new broken.ran (subst (AllSince is_end mid) (sym same) here) in
       record {
+        goes = goes_up tries.OutOfMemory own stop mid new own_is broken (inl (stop_is, inl (idle, same)));
         began = one_try new ran;
         commits = inl (kept_on mid new broken.kept (subst (Uncommitted mid) (sym same) here));
         said = tt;
@@ -205,9 +220,10 @@ module _ (defs : List TableDef) (block : Block) (age : Option ℕ) (number : ℕ
         ended = inl (ap is_running same ∙ idle);
         kept = kept_on mid new broken.kept (subst (Uncommitted mid) (sym same) here);
       }
-  tried_given_up tries.OutOfMemory own stop mid new own_is broken (inr (inl undone)) =
+  tried_given_up tries.OutOfMemory own stop mid new own_is broken (inl (stop_is, inr undone)) =
       let ran = ran_on mid new broken.ran (given_up_ends mid new undone) in
       record {
+        goes = goes_up tries.OutOfMemory own stop mid new own_is broken (inl (stop_is, inr undone));
         began = one_try new ran;
         commits = inl (kept_on mid new broken.kept (given_up_kept mid new undone));
         said = tt;
@@ -218,9 +234,10 @@ module _ (defs : List TableDef) (block : Block) (age : Option ℕ) (number : ℕ
         ended = inl (given_up_stops mid new undone);
         kept = kept_on mid new broken.kept (given_up_kept mid new undone);
       }
-  tried_given_up tries.OutOfMemory own stop mid new own_is broken (inr (inr is)) =
+  tried_given_up tries.OutOfMemory own stop mid new own_is broken (inr (behind, is)) =
       let ran = ran_on mid new broken.ran (subst (AllSince is_end mid) (sym is) (then (Stopped AskUndo stops.OutOfMemory) mid refl here)) in
       record {
+        goes = goes_up tries.OutOfMemory own stop mid new own_is broken (inr (behind, is));
         began = one_try new ran;
         commits = inl (kept_on mid new broken.kept (subst (Uncommitted mid) (sym is) (then (Stopped AskUndo stops.OutOfMemory) mid refl here)));
         said = tt;
@@ -233,14 +250,14 @@ module _ (defs : List TableDef) (block : Block) (age : Option ℕ) (number : ℕ
       }
 
 -- the same, by what the begin answered
-module _ (defs : List TableDef) (block : Block) (age : Option ℕ) (own : ℕ) (old begun : List Call) (begins : Begins age old (Ok (Running own)) begun) where
+module _ (defs : List TableDef) (block : Block) (may : MayBegin block) (age : Option ℕ) (own : ℕ) (old begun : List Call) (begins : Begins age old (Ok (Running own)) begun) where
   pub begun_said : (tried : Tried) (list : List Reply) (new : List Call) → Says tried list → Answered defs block begun list new → Tries defs age block old tried new
   begun_said tried list new says answered =
-      tried_said defs block age begins.0 old tried list new says (subst (λ (calls : List Call). Answered defs block calls list new) begins.1 answered)
+      tried_said defs block may age begins.0 old tried list new says (subst (λ (calls : List Call). Answered defs block calls list new) begins.1 answered)
 
   pub begun_given_up : (tried : Tried) (stop : Stop) (mid new : List Call) → Broken defs block begun stop mid → GivesUp own mid stop tried new → Tries defs age block old tried new
   begun_given_up tried stop mid new broken gave =
-      tried_given_up defs block age begins.0 old tried own stop mid new begins.2 (subst (λ (calls : List Call). Broken defs block calls stop mid) begins.1 broken) gave
+      tried_given_up defs block may age begins.0 old tried own stop mid new begins.2 (subst (λ (calls : List Call). Broken defs block calls stop mid) begins.1 broken) gave
 
 -- ---- No transaction was begun
 
@@ -260,19 +277,19 @@ refused_begin (stops.Die holder) refusal is = absurd is
 refused_begin (stops.Fault file) refusal is = absurd is
 refused_begin stops.OutOfMemory refusal is = absurd is
 
-refused_given : (defs : List TableDef) (age : Option ℕ) (stop : Stop) (refusal : Refusal) (old : List Call) → RefusesBegin stop refusal → ReplyWasGiven defs old (unanswered age stop old) (replies.Refused refusal)
-refused_given defs age (stops.Spent limit) refusal old is =
-    subst (λ (r : Refusal). ReplyWasGiven defs old (unanswered age (stops.Spent limit) old) (replies.Refused r)) (sym is) (λ first plays. record { asked = AskBegin age; before = old; since = here; more = here; placed = inl (age, refl) })
-refused_given defs age (stops.Refused (LogFull bytes limit)) refusal old is =
-    subst (λ (r : Refusal). ReplyWasGiven defs old (unanswered age (stops.Refused (LogFull bytes limit)) old) (replies.Refused r)) (sym is) (record { asked = AskBegin age; before = old; since = here; more = here; placed = inl (age, refl) })
-refused_given defs age (stops.Refused (Pages used limit)) refusal old is = absurd is
-refused_given defs age (stops.Refused (Nodes used limit)) refusal old is = absurd is
-refused_given defs age (stops.Refused (Txn used limit)) refusal old is = absurd is
-refused_given defs age (stops.Refused (Locks held limit)) refusal old is = absurd is
-refused_given defs age (stops.Refused (Busy oldest)) refusal old is = absurd is
-refused_given defs age (stops.Die holder) refusal old is = absurd is
-refused_given defs age (stops.Fault file) refusal old is = absurd is
-refused_given defs age stops.OutOfMemory refusal old is = absurd is
+refused_given : (age : Option ℕ) (stop : Stop) (refusal : Refusal) (old : List Call) → RefusesBegin stop refusal → ReplyWasGiven old (unanswered age stop old) (replies.Refused refusal)
+refused_given age (stops.Spent limit) refusal old is =
+    subst (λ (r : Refusal). ReplyWasGiven old (unanswered age (stops.Spent limit) old) (replies.Refused r)) (sym is) (record { asked = AskBegin age; before = old; since = here; more = here; placed = inl (age, refl) })
+refused_given age (stops.Refused (LogFull bytes limit)) refusal old is =
+    subst (λ (r : Refusal). ReplyWasGiven old (unanswered age (stops.Refused (LogFull bytes limit)) old) (replies.Refused r)) (sym is) (record { asked = AskBegin age; before = old; since = here; more = here; placed = inl (age, refl) })
+refused_given age (stops.Refused (Pages used limit)) refusal old is = absurd is
+refused_given age (stops.Refused (Nodes used limit)) refusal old is = absurd is
+refused_given age (stops.Refused (Txn used limit)) refusal old is = absurd is
+refused_given age (stops.Refused (Locks held limit)) refusal old is = absurd is
+refused_given age (stops.Refused (Busy oldest)) refusal old is = absurd is
+refused_given age (stops.Die holder) refusal old is = absurd is
+refused_given age (stops.Fault file) refusal old is = absurd is
+refused_given age stops.OutOfMemory refusal old is = absurd is
 
 refused_stops : (age : Option ℕ) (stop : Stop) (refusal : Refusal) (old : List Call) → RefusesBegin stop refusal → is_running old ≡ false → is_running (unanswered age stop old) ≡ false
 refused_stops age (stops.Spent limit) refusal old is idle = refl
@@ -280,37 +297,6 @@ refused_stops age (stops.Refused resource) refusal old is idle = idle
 refused_stops age (stops.Die holder) refusal old is idle = idle
 refused_stops age (stops.Fault file) refusal old is idle = idle
 refused_stops age stops.OutOfMemory refusal old is idle = idle
-
--- a refusal of a text isn't that something is lacking or spent
-plain_given : (defs : List TableDef) (old new : List Call) (refusal : Refusal) → IsPlain (replies.Refused refusal) → ReplyWasGiven defs old new (replies.Refused refusal)
-plain_given defs old new (refusals.Resource resource) plain = absurd (plain.0 resource refl)
-plain_given defs old new (refusals.Spent limit) plain = absurd (plain.1 limit refl)
-plain_given defs old new (refusals.Syntax at) plain = tt
-plain_given defs old new refusals.InBlock plain = tt
-plain_given defs old new refusals.NoBlock plain = tt
-plain_given defs old new refusals.OnlyFirst plain = tt
-plain_given defs old new refusals.NoTable plain = tt
-plain_given defs old new refusals.NoColumn plain = tt
-plain_given defs old new refusals.Kind plain = tt
-plain_given defs old new refusals.Order plain = tt
-plain_given defs old new refusals.KeyFixed plain = tt
-plain_given defs old new refusals.Twice plain = tt
-plain_given defs old new (refusals.Count given wanted) plain = tt
-plain_given defs old new (refusals.Length given limit) plain = tt
-plain_given defs old new (refusals.Duplicate key) plain = tt
-plain_given defs old new refusals.Range plain = tt
-plain_given defs old new refusals.TableExists plain = tt
-plain_given defs old new (refusals.Tables limit) plain = tt
-plain_given defs old new (refusals.Columns count) plain = tt
-plain_given defs old new (refusals.SameName place) plain = tt
-plain_given defs old new refusals.NoKey plain = tt
-plain_given defs old new (refusals.TooWide bytes) plain = tt
-
-not_read_given : (defs : List TableDef) (old new : List Call) (is_inside : Bool) (read : Result Statement ℕ) (refusal : Refusal) → refused_as is_inside read ≡ Some refusal → ReplyWasGiven defs old new (replies.Refused refusal)
-not_read_given defs old new is_inside (Err at) refusal e =
-    let same : refusals.Syntax at ≡ refusal = cc in
-    subst (λ (r : Refusal). ReplyWasGiven defs old new (replies.Refused r)) same tt
-not_read_given defs old new is_inside (Ok statement) refusal e = plain_given defs old new refusal (misplaced_plain is_inside statement refusal e)
 
 module _ (defs : List TableDef) (age : Option ℕ) (block : Block) (old : List Call) where
   nothing_runs : (new : List Call) → AllSince (λ call. not (is_row_work call)) old new → RunsBlock defs block old new
@@ -321,16 +307,17 @@ module _ (defs : List TableDef) (age : Option ℕ) (block : Block) (old : List C
   nothing_commits new (inr (stop, is)) = inl (subst (Uncommitted old) (sym is) (then (Stopped (AskBegin age) stop) old refl here))
 
   -- the replies are the block's on any tables
-  without : (tried : Tried) (list : List Reply) (new : List Call) → Says tried list → (new ≡ old) ⊎ ((stop : Stop) × (new ≡ unanswered age stop old)) → AllSince (λ call. not (is_row_work call)) old new
-      → ((first : Tables) → block_means block first list first) → AllByRecursion (ReplyWasGiven defs old new) list → is_running new ≡ false → Tries defs age block old tried new
-  without tries.Stopped list new is none no_work means given idle = absurd is
-  without tries.OutOfMemory list new is none no_work means given idle = absurd is
-  without (tries.Died holder own) list new is none no_work means given idle = absurd is
-  without (tries.Said said) list new is none no_work means given idle = record {
+  without : (tried : Tried) (list : List Reply) (new : List Call) → TryGoes defs age block old tried new → Says tried list → (new ≡ old) ⊎ ((stop : Stop) × (new ≡ unanswered age stop old)) → AllSince (λ call. not (is_row_work call)) old new
+      → ((first : Tables) → block_means block first list first) → AllByRecursion (ReplyWasGiven old new) list → is_running new ≡ false → Tries defs age block old tried new
+  without tries.Stopped list new goes is none no_work means given idle = absurd is
+  without tries.OutOfMemory list new goes is none no_work means given idle = absurd is
+  without (tries.Died holder own) list new goes is none no_work means given idle = absurd is
+  without (tries.Said said) list new goes is none no_work means given idle = record {
+    goes = goes;
     began = inl none;
     commits = nothing_commits new none;
     said = inl (record { calls = none; means = λ first. subst (λ (l : List Reply). block_means block first l first) (sym is) (means first) });
-    causes = subst (λ (l : List Reply). AllByRecursion (ReplyWasGiven defs old new) l) (sym is) given;
+    causes = subst (λ (l : List Reply). AllByRecursion (ReplyWasGiven old new) l) (sym is) given;
     calls = nothing_runs new no_work;
     stopped = tt;
     died = tt;
@@ -339,16 +326,19 @@ module _ (defs : List TableDef) (age : Option ℕ) (block : Block) (old : List C
   }
 
   -- the begin was refused
-  pub not_begun : (tried : Tried) (refusal : Refusal) (more : List Reply) (stop : Stop) (new : List Call) → Says tried (replies.Refused refusal ∷ more) → RefusesBegin stop refusal → new ≡ unanswered age stop old → is_running old ≡ false
-      → ((first : Tables) → IsNotBegun (replies.Refused refusal) → block_means block first (replies.Refused refusal ∷ more) first) → AllByRecursion (ReplyWasGiven defs old (unanswered age stop old)) more → Tries defs age block old tried new
-  not_begun tried refusal more stop new says refuses is idle means given =
+  pub not_begun : (tried : Tried) (refusal : Refusal) (more : List Reply) (stop : Stop) (new : List Call) → MayBegin block → replies_refused block refusal ≡ replies.Refused refusal ∷ more → Says tried (replies.Refused refusal ∷ more) → RefusesBegin stop refusal → new ≡ unanswered age stop old → is_running old ≡ false
+      → ((first : Tables) → IsNotBegun (replies.Refused refusal) → block_means block first (replies.Refused refusal ∷ more) first) → AllByRecursion (ReplyWasGiven old (unanswered age stop old)) more → Tries defs age block old tried new
+  not_begun tried refusal more stop new may all says refuses is idle means given =
+      let tells = inl (refusal, refuses, subst (Says tried) (sym all) says) in
+      let goes : TryGoes defs age block old tried (unanswered age stop old) = inr (inl (record { begins = may; stop = stop; calls = refl; tells = tells })) in
       subst (Tries defs age block old tried) (sym is)
-      (without tried (replies.Refused refusal ∷ more) (unanswered age stop old) says (inr (stop, refl)) (then (Stopped (AskBegin age) stop) old refl here) (λ first. means first (refused_begin stop refusal refuses))
-      (refused_given defs age stop refusal old refuses, given) (refused_stops age stop refusal old refuses idle))
+      (without tried (replies.Refused refusal ∷ more) (unanswered age stop old) goes says (inr (stop, refl)) (then (Stopped (AskBegin age) stop) old refl here) (λ first. means first (refused_begin stop refusal refuses))
+      (refused_given age stop refusal old refuses, given) (refused_stops age stop refusal old refuses idle))
 
   -- memory ran out before anything was called
   pub no_memory : is_running old ≡ false → Tries defs age block old tries.OutOfMemory old
   no_memory idle = record {
+    goes = inl (record { calls = refl; why = inl refl });
     began = inl (inl refl);
     commits = inl here;
     said = tt;
@@ -361,8 +351,9 @@ module _ (defs : List TableDef) (age : Option ℕ) (block : Block) (old : List C
   }
 
   -- the begin failed
-  begin_fails : (stop : Stop) (tried : Tried) → Fails stop → FailsAs stop tried → is_running old ≡ false → Tries defs age block old tried (unanswered age stop old)
-  begin_fails (stops.Fault file) tried fails is idle = subst (λ (x : Tried). Tries defs age block old x (unanswered age (stops.Fault file) old)) (sym is) (record {
+  begin_fails : (stop : Stop) (tried : Tried) → MayBegin block → Fails stop → FailsAs stop tried → is_running old ≡ false → Tries defs age block old tried (unanswered age stop old)
+  begin_fails (stops.Fault file) tried may fails is idle = subst (λ (x : Tried). Tries defs age block old x (unanswered age (stops.Fault file) old)) (sym is) (record {
+    goes = inr (inl (record { begins = may; stop = stops.Fault file; calls = refl; tells = inr (tt, refl) }));
     began = inl (inr (stops.Fault file, refl));
     commits = inl (then (Stopped (AskBegin age) (stops.Fault file)) old refl here);
     said = tt;
@@ -373,7 +364,8 @@ module _ (defs : List TableDef) (age : Option ℕ) (block : Block) (old : List C
     ended = tt;
     kept = tt;
   })
-  begin_fails stops.OutOfMemory tried fails is idle = subst (λ (x : Tried). Tries defs age block old x (unanswered age stops.OutOfMemory old)) (sym is) (record {
+  begin_fails stops.OutOfMemory tried may fails is idle = subst (λ (x : Tried). Tries defs age block old x (unanswered age stops.OutOfMemory old)) (sym is) (record {
+    goes = inr (inl (record { begins = may; stop = stops.OutOfMemory; calls = refl; tells = inr (tt, refl) }));
     began = inl (inr (stops.OutOfMemory, refl));
     commits = inl (then (Stopped (AskBegin age) stops.OutOfMemory) old refl here);
     said = tt;
@@ -384,29 +376,29 @@ module _ (defs : List TableDef) (age : Option ℕ) (block : Block) (old : List C
     ended = inl idle;
     kept = then (Stopped (AskBegin age) stops.OutOfMemory) old refl here;
   })
-  begin_fails (stops.Die holder) tried fails is idle = absurd fails
-  begin_fails (stops.Spent limit) tried fails is idle = absurd fails
-  begin_fails (stops.Refused resource) tried fails is idle = absurd fails
+  begin_fails (stops.Die holder) tried may fails is idle = absurd fails
+  begin_fails (stops.Spent limit) tried may fails is idle = absurd fails
+  begin_fails (stops.Refused resource) tried may fails is idle = absurd fails
 
-  pub begin_failed : (stop : Stop) (tried : Tried) (new : List Call) → Fails stop → FailsAs stop tried → is_running old ≡ false → new ≡ unanswered age stop old → Tries defs age block old tried new
-  begin_failed stop tried new fails is idle new_is = subst (Tries defs age block old tried) (sym new_is) (begin_fails stop tried fails is idle)
+  pub begin_failed : (stop : Stop) (tried : Tried) (new : List Call) → MayBegin block → Fails stop → FailsAs stop tried → is_running old ≡ false → new ≡ unanswered age stop old → Tries defs age block old tried new
+  begin_failed stop tried new may fails is idle new_is = subst (Tries defs age block old tried) (sym new_is) (begin_fails stop tried may fails is idle)
 
 -- a text that stands alone is refused where it stands
 pub not_read : (defs : List TableDef) (age : Option ℕ) (text : Placed) (old : List Call) (tried : Tried) (refusal : Refusal) → Says tried (replies.Refused refusal ∷ []) → ReadAs false text (NotRead refusal) → is_running old ≡ false → Tries defs age (Alone text) old tried old
 not_read defs age text old tried refusal says (read, is, refused) idle =
-    without defs age (Alone text) old tried (replies.Refused refusal ∷ []) old says (inl refl) here
+    without defs age (Alone text) old tried (replies.Refused refusal ∷ []) old (inl (record { calls = refl; why = inr (read, refusal, is, refused, says) })) says (inl refl) here
     (λ first. (read, is, (replies.Refused refusal, refl, inl (refused_answers false read refusal first first (replies.Refused refusal) refused (refl, refl)))))
-    (not_read_given defs old old false read refusal refused, tt) idle
+    (reply_given old old (replies.Refused refusal) (not_read_cause old old false read refusal refused), tt) idle
 
 -- the transaction of a statement that stands alone isn't begun
 pub alone_not_begun : (defs : List TableDef) (age : Option ℕ) (text : Placed) (old : List Call) (tried : Tried) (statement : Statement) (refusal : Refusal) (stop : Stop) (new : List Call) → Says tried (replies.Refused refusal ∷ []) → ReadAs false text (Allowed statement)
     → RefusesBegin stop refusal → new ≡ unanswered age stop old → is_running old ≡ false → Tries defs age (Alone text) old tried new
 alone_not_begun defs age text old tried statement refusal stop new says (is, allowed) refuses new_is idle =
-    not_begun defs age (Alone text) old tried refusal [] stop new says refuses new_is idle (λ first none. (Ok statement, is, (replies.Refused refusal, refl, inr (allowed, none, refl)))) tt
+    not_begun defs age (Alone text) old tried refusal [] stop new (statement, (is, allowed)) refl says refuses new_is idle (λ first none. (Ok statement, is, (replies.Refused refusal, refl, inr (allowed, none, refl)))) tt
 
 -- BEGIN is refused, and NO BLOCK follows
 pub behind_not_begun : (defs : List TableDef) (age : Option ℕ) (t : Transaction) (old : List Call) (tried : Tried) (refusal : Refusal) (stop : Stop) (new : List Call) → Says tried (replies.Refused refusal ∷ without_block t.statements t.end)
     → RefusesBegin stop refusal → new ≡ unanswered age stop old → is_running old ≡ false → Tries defs age (Behind t) old tried new
 behind_not_begun defs age t old tried refusal stop new says refuses new_is idle =
-    not_begun defs age (Behind t) old tried refusal (without_block t.statements t.end) stop new says refuses new_is idle (λ first none. inr (none, refl, refl))
-    (all_no_block (ReplyWasGiven defs old (unanswered age stop old)) t.statements t.end tt)
+    not_begun defs age (Behind t) old tried refusal (without_block t.statements t.end) stop new tt refl says refuses new_is idle (λ first none. inr (none, refl, refl))
+    (all_no_block (ReplyWasGiven old (unanswered age stop old)) t.statements t.end tt)

@@ -10,17 +10,15 @@ use Rattle.sql_check.specs.declared.fault.CheckFault.{CheckFault}
 use Rattle.plain_model.specs.declared.reply.Reply.{Reply}
 use Rattle.plain_model.specs.declared.reply.Reply.TheVariants.{Refused}
 use Rattle.plain_model.specs.declared.reply.Refusal.{Refusal}
-use Rattle.plain_model.specs.declared.reply.Refusal.TheVariants as refusals
 use Rattle.plain_model.specs.Refusals.{refusal_of_check}
 use Rattle.plain_model.specs.Meaning.{means, means_unless, unfit}
-use Rattle.plain_model.specs.Blocks.{Answers, AnswersUnless, IsMeant, misplaced}
+use Rattle.plain_model.specs.Blocks.{IsMeant}
 use Rattle.plain_model.specs.CallPlays.{CallsPlay, tables_of}
 use Rattle.plain_model.specs.Calls.{Call, Began, Committed, Undone, Locked, Did, Opened, Stopped, ops_of}
 use Rattle.plain_model.proofs.CallLaws.{plays_as_listed}
-use Rattle.plain_model.proofs.NothingUsedUp.{means_plain, misplaced_plain}
 use Rattle.sql_exec.specs.Plays.{LacksPlay, PlaysFrom}
 use Rattle.engine_txn.specs.Transactions.{here, then, Continues, HasBegun}
-use Rattle.engine_txn.specs.StatementRuns.{Works}
+use Rattle.engine_txn.specs.StatementRuns.{RowWork}
 use Rattle.engine_txn.specs.BlockSaid.{left_by}
 
 -- ---- Earlier calls are those of the same tables
@@ -69,23 +67,10 @@ unfit_means defs tables statement fault refusal schema is refuses =
     let meaning : means tables statement ≡ (Refused refusal, tables) = ap (λ (o : Option Refusal). means_unless o tables statement) (unfit_is defs tables statement fault refusal schema is refuses) in
     (sym (ap (λ (p : Reply × Tables). p.0) meaning), sym (ap (λ (p : Reply × Tables). p.1) meaning))
 
--- ---- A text's answer isn't that something is spent
-
-unless_not_spent : (is_inside : Bool) (o : Option Refusal) (statement : Statement) (old new : Tables) (reply : Reply) (limit : ℕ) → misplaced is_inside statement ≡ o → AnswersUnless o statement old reply new → reply ≡ Refused (refusals.Spent limit) → ⊥
-unless_not_spent is_inside (Some refusal) statement old new reply limit e is spent = (misplaced_plain is_inside statement refusal e).1 limit (sym is.0 ∙ spent)
-unless_not_spent is_inside None statement old new reply limit e (inl is) spent = (means_plain old statement).1 limit (sym is.0 ∙ spent)
-unless_not_spent is_inside None statement old new reply limit e (inr (resource, may, is)) spent =
-    let same : Refused (refusals.Resource resource) ≡ Refused (refusals.Spent limit) = sym is.0 ∙ spent in cc
-
-pub not_spent : (is_inside : Bool) (read : Result Statement ℕ) (old new : Tables) (reply : Reply) (limit : ℕ) → Answers is_inside read old reply new → reply ≡ Refused (refusals.Spent limit) → ⊥
-not_spent is_inside (Err at) old new reply limit is spent =
-    let same : Refused (refusals.Syntax at) ≡ Refused (refusals.Spent limit) = sym is.0 ∙ spent in cc
-not_spent is_inside (Ok statement) old new reply limit is spent = unless_not_spent is_inside (misplaced is_inside statement) statement old new reply limit refl is spent
-
 -- ---- What a transaction leaves
 
 -- behind a begin nothing is left changed while there is only work on rows
-pub left_first : (first : Tables) (begun now : List Call) → HasBegun begun → Works begun now → left_by first now ≡ first
+pub left_first : (first : Tables) (begun now : List Call) → HasBegun begun → RowWork begun now → left_by first now ≡ first
 left_first first begun _ (age, number, old, is) here = ap (left_by first) is
 left_first first begun _ has (then (Began age number) calls passes more) = absurd cc
 left_first first begun _ has (then Committed calls passes more) = absurd cc

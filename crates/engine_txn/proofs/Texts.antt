@@ -1,5 +1,6 @@
 -- The calls for texts, and what texts are read as.
-use Rattle.std.proofs.Common.{◌≡◌, inl, inr, ℕ, Bool, true, List, [], ◌∷◌, Option, None, Some, Result, Ok, Err, refl, sym, ap, subst, ◌∙◌}
+use Rattle.std.proofs.Common.{◌≡◌, inl, inr, ℕ, Bool, true, List, [], ◌∷◌, ◌++◌, Option, None, Some, Result, Ok, Err, refl, sym, ap, subst, ◌∙◌}
+use Rattle.std.specs.Prelude.{IfErr, IfOk}
 use Rattle.row_types.specs.Block.{Placed}
 use Rattle.row_types.specs.Tables.{Tables}
 use Rattle.row_types.specs.declared.definition.TableDef.{TableDef}
@@ -17,11 +18,13 @@ use Rattle.plain_model.specs.Refusals.{refusal_of_check}
 use Rattle.plain_model.specs.Blocks.{Answers, AnswersUnless, IsRefused, misplaced}
 use Rattle.plain_model.specs.CallPlays.{tables_of}
 use Rattle.plain_model.specs.Calls.{Call}
-use Rattle.sql_exec.specs.Means.{LocksBy, lock_of, mode_of, Means}
+use Rattle.sql_exec.specs.Means.{IsOwnOrBy, LocksBy, lock_of, mode_of, Means}
 use Rattle.sql_exec.specs.Sends.{Sends}
 use Rattle.engine_txn.specs.declared.read.Read.TheVariants.{Allowed, Refused as NotRead}
 use Rattle.engine_txn.specs.StatementRuns.{RunsPlan, RunsUnless, RunsStatement, RunsPlaced, RunsText, RunsTexts}
-use Rattle.engine_txn.specs.Progress.{AnswersText, ReadAs, RunsOr, refused_as}
+use Rattle.engine_txn.specs.Progress.{AnswersText, ReadAs, RunsOr}
+use Rattle.engine_txn.specs.TextRuns.{Course, HasCause, IsOwnOrGiven, Replied, StopsSince, TextReplied, TextStopped, course_of, refused_as}
+use Rattle.engine_txn.proofs.Causes.{not_read_cause}
 
 -- ---- One statement
 
@@ -73,13 +76,40 @@ pub allowed_answers : (is_inside : Bool) (statement : Statement) (old new : Tabl
 allowed_answers is_inside statement old new reply allowed is = subst (λ (o : Option Refusal). AnswersUnless o statement old reply new) (sym allowed) is
 
 pub text_refused : (defs : List TableDef) (text : Placed) (refusal : Refusal) (old : List Call) → ReadAs true text (NotRead refusal) → AnswersText defs text old (Ok (Reply.Refused refusal)) old
-text_refused defs text refusal old (read, is, refused) = (read, is, refused_runs true defs read refusal old refused, λ first plays. refused_answers true read refusal _ _ _ refused (refl, refl))
+text_refused defs text refusal old (read, is, refused) = record {
+  read = read;
+  is_read = is;
+  calls = refused_runs true defs read refusal old refused;
+  means = λ first plays. refused_answers true read refusal _ _ _ refused (refl, refl);
+  cause = not_read_cause old old true read refusal refused;
+}
 
-pub text_allowed : (defs : List TableDef) (text : Placed) (statement : Statement) (old : List Call) (result : Result Reply Stop) (new : List Call) → ReadAs true text (Allowed statement) → RunsOr result defs statement old new → Means defs statement old result new → AnswersText defs text old result new
-text_allowed defs text statement old (Ok reply) new (is, allowed) runs means =
-    (Ok statement, is, allowed_runs true defs statement old new allowed runs, λ first plays. allowed_answers true statement (tables_of first old) (tables_of first new) reply allowed (means first plays))
-text_allowed defs text statement old (Err stop) new read (inl early) means = inl early
-text_allowed defs text statement old (Err stop) new read (inr runs) means = inr (statement, read, runs)
+-- a statement that is allowed has a reply, or a stop ends it
+pub text_replied : (is_inside : Bool) (defs : List TableDef) (text : Placed) (statement : Statement) (old : List Call) (reply : Reply) (new : List Call) → ReadAs is_inside text (Allowed statement) → RunsStatement defs statement old new → Means defs statement old (Ok reply) new → HasCause old new reply → TextReplied is_inside defs text old reply new
+text_replied is_inside defs text statement old reply new (is, allowed) runs means cause = record {
+  read = Ok statement;
+  is_read = is;
+  calls = allowed_runs is_inside defs statement old new allowed runs;
+  means = λ first plays. allowed_answers is_inside statement (tables_of first old) (tables_of first new) reply allowed (means first plays);
+  cause = cause;
+}
+
+pub text_stopped : (is_inside : Bool) (defs : List TableDef) (text : Placed) (statement : Statement) (old : List Call) (stop : Stop) (new : List Call) → ReadAs is_inside text (Allowed statement) → RunsOr (Err stop) defs statement old new → StopsSince old new stop → TextStopped is_inside defs text old stop new
+text_stopped is_inside defs text statement old stop new read (inl early) ends = inl early
+text_stopped is_inside defs text statement old stop new read (inr runs) ends = inr (statement, read, runs, ends.cause)
+
+-- the last call of a text that a stop ended gave that, or memory ran out
+given_by : (old new : List Call) (stop : Stop) → IsOwnOrGiven old new stop → IsOwnOrBy new stop
+given_by old new stop (inl own) = inl own
+given_by old new stop (inr gave) = inr (record { asked = gave.asked; before = gave.before; last = gave.last; running = gave.running })
+
+pub stopped_by : (is_inside : Bool) (defs : List TableDef) (text : Placed) (old : List Call) (stop : Stop) (new : List Call) → TextStopped is_inside defs text old stop new → IsOwnOrBy new stop
+stopped_by is_inside defs text old stop new (inl early) = inl early.0
+stopped_by is_inside defs text old stop new (inr (statement, read, runs, cause)) = given_by old new stop cause
+
+pub text_allowed : (defs : List TableDef) (text : Placed) (statement : Statement) (old : List Call) (result : Result Reply Stop) (new : List Call) → ReadAs true text (Allowed statement) → RunsOr result defs statement old new → Means defs statement old result new → IfOk result (HasCause old new) → IfErr result (StopsSince old new) → AnswersText defs text old result new
+text_allowed defs text statement old (Ok reply) new read runs means cause ends = text_replied true defs text statement old reply new read runs means cause
+text_allowed defs text statement old (Err stop) new read runs means cause ends = text_stopped true defs text statement old stop new read runs ends
 
 -- ---- Texts
 
@@ -95,3 +125,8 @@ texts_one is_inside defs text texts statement old new (is, allowed) runs =
 
 pub texts_early : (is_inside : Bool) (defs : List TableDef) (texts : List Placed) (old new : List Call) → new ≡ old → RunsTexts is_inside defs texts old new
 texts_early is_inside defs texts old new same = subst (RunsTexts is_inside defs texts old) (sym same) (texts_none is_inside defs texts old)
+
+-- one reply more
+pub course_more : (replies : List Reply) (reply : Reply) (course : Course) → course_of (replies ++ reply ∷ []) course ≡ course_of replies (Replied reply course)
+course_more [] reply course = refl
+course_more (first ∷ replies) reply course = ap (Replied first) (course_more replies reply course)

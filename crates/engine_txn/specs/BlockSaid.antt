@@ -42,10 +42,8 @@ abbrev pub BlockSaid : List TableDef → Option ℕ → Block → List Reply →
 BlockSaid defs age block replies old new =
     SaidWithout age block replies old new ⊎ SaidWithin defs age block replies old new
 
--- a reply that a resource is lacking is what a call since gave, and that
--- something is spent too, wherever the calls are those of some tables
-abbrev pub ReplyWasGiven : List TableDef → List Call → List Call → Reply → Type 0
-ReplyWasGiven defs old new (Refused (refusals.Resource resource)) = GaveSince (stops.Refused resource) old new
-ReplyWasGiven defs old new (Refused (refusals.Spent limit)) =
-    (first : Tables) → PlaysFrom defs first new → GaveSince (stops.Spent limit) old new
-ReplyWasGiven defs old new reply = ⊤
+-- a reply that a resource is lacking, or that something is spent, is what a call since gave
+abbrev pub ReplyWasGiven : List Call → List Call → Reply → Type 0
+ReplyWasGiven old new (Refused (refusals.Resource resource)) = GaveSince (stops.Refused resource) old new
+ReplyWasGiven old new (Refused (refusals.Spent limit)) = GaveSince (stops.Spent limit) old new
+ReplyWasGiven old new reply = ⊤

@@ -1,6 +1,6 @@
 -- How far a block's transaction has come.
-use Rattle.std.specs.Prelude.{◌≡◌, ◌⊎◌, ℕ, ◌-◌, ◌+◌, ◌≤◌, Bool, true, false, drop, length, List, [], ◌++◌}
-use Rattle.std.specs.Prelude.{Option, None, Some, Result, Ok, Err, IsTrue}
+use Rattle.std.specs.Prelude.{◌≡◌, ◌⊎◌, ℕ, ◌-◌, ◌+◌, ◌≤◌, Bool, true, false, drop, length, List, [], ◌∷◌}
+use Rattle.std.specs.Prelude.{◌++◌, None, Some, Result, Ok, Err, IsTrue}
 use Rattle.std.specs.List.{AllByRecursion}
 use Rattle.row_types.specs.Block.{Placed}
 use Rattle.row_types.specs.Tables.{Tables}
@@ -10,28 +10,25 @@ use Rattle.row_types.specs.declared.block.Transaction.{Transaction}
 use Rattle.row_types.specs.declared.definition.TableDef.{TableDef}
 use Rattle.sql_parse.specs.declared.statement.Statement.{Statement}
 use Rattle.plain_model.specs.declared.reply.Reply.{Reply}
-use Rattle.plain_model.specs.declared.reply.Refusal.{Refusal}
-use Rattle.plain_model.specs.declared.reply.Refusal.TheVariants as refusals
+use Rattle.plain_model.specs.declared.reply.Reply.TheVariants.{Done}
 use Rattle.plain_model.specs.declared.stop.Stop.{Stop}
 use Rattle.plain_model.specs.declared.stop.Stop.TheVariants as stops
-use Rattle.plain_model.specs.Blocks.{Answers, IsRead, RunsSoFar, TransactionAnswers, misplaced, without_block}
+use Rattle.plain_model.specs.Blocks.{IsRead, RunsSoFar, TransactionAnswers, misplaced, without_block}
 use Rattle.plain_model.specs.CallPlays.{tables_of}
 use Rattle.plain_model.specs.Calls.{AskCommit, AskUndo, Call, Committed, Undone, Stopped, is_running}
 use Rattle.sql_exec.specs.Means.{IsOwnOrBy}
 use Rattle.sql_exec.specs.Plays.{PlaysFrom}
 use Rattle.engine_txn.specs.declared.read.Read.{Read}
 use Rattle.engine_txn.specs.declared.read.Read.TheVariants.{Allowed, Refused as NotRead}
+use Rattle.engine_txn.specs.BlockRuns.{BrokeOff, Finishes, spent_at}
 use Rattle.engine_txn.specs.BlockSaid.{MeansBlock, ReplyWasGiven}
-use Rattle.engine_txn.specs.StatementRuns.{RunsStatement, RunsText, RunsTexts, Works, has_begin, texts_of}
+use Rattle.engine_txn.specs.StatementRuns.{RunsStatement, RunsTexts, RowWork, has_begin, texts_of}
 use Rattle.engine_txn.specs.Steps.{Halts}
+use Rattle.engine_txn.specs.TextRuns.{Course, IsEarly, StoppedBy, TextReplied, TextStopped, TextsGo, course_of}
+use Rattle.engine_txn.specs.TextRuns.{refused_as}
 use Rattle.engine_txn.specs.Transactions.{AllSince, CommitsLast, Uncommitted}
 
 -- ---- One text
-
--- why a text is refused where it stands
-abbrev pub refused_as : Bool → Result Statement ℕ → Option Refusal
-refused_as is_inside (Err at) = Some (refusals.Syntax at)
-refused_as is_inside (Ok statement) = misplaced is_inside statement
 
 -- what a text is read as, where it stands
 abbrev pub ReadAs : Bool → Placed → Read → Type 0
@@ -40,30 +37,15 @@ ReadAs is_inside text (Allowed statement) =
 ReadAs is_inside text (NotRead refusal) =
     (read : Result Statement ℕ) × IsRead text read × (refused_as is_inside read ≡ Some refusal)
 
--- memory ran out before anything was called
-abbrev pub IsEarly : Stop → List Call → List Call → Type 0
-IsEarly stop old new = (stop ≡ stops.OutOfMemory) × (new ≡ old)
-
 -- the calls for a statement, but where memory ran out before
 abbrev pub RunsOr : Result Reply Stop → List TableDef → Statement → List Call → List Call → Type 0
 RunsOr (Ok reply) defs statement old new = RunsStatement defs statement old new
 RunsOr (Err stop) defs statement old new = IsEarly stop old new ⊎ RunsStatement defs statement old new
 
--- wherever the calls are those of some tables, the reply to a text behind BEGIN is what it means
-abbrev pub AnswersRead : List TableDef → Result Statement ℕ → List Call → Reply → List Call → Type 0
-AnswersRead defs read old reply new =
-    (first : Tables) → PlaysFrom defs first new
-    → Answers true read (tables_of first old) reply (tables_of first new)
-
--- a text behind BEGIN is answered and its calls are made; or a
--- stop came before any, or at a statement that is allowed there
+-- a text behind BEGIN is answered, or a stop ended it
 abbrev pub AnswersText : List TableDef → Placed → List Call → Result Reply Stop → List Call → Type 0
-AnswersText defs text old (Ok reply) new =
-    (read : Result Statement ℕ) × IsRead text read × RunsText true defs read old new
-    × AnswersRead defs read old reply new
-AnswersText defs text old (Err stop) new =
-    IsEarly stop old new
-    ⊎ ((statement : Statement) × ReadAs true text (Allowed statement) × RunsStatement defs statement old new)
+AnswersText defs text old (Ok reply) new = TextReplied true defs text old reply new
+AnswersText defs text old (Err stop) new = TextStopped true defs text old stop new
 
 -- ---- The statements behind BEGIN
 
@@ -78,27 +60,46 @@ abbrev pub CallsSoFar : List TableDef → List Placed → List Placed → List C
 CallsSoFar defs texts rest begun now =
     (last : List Call) → RunsTexts true defs rest now last → RunsTexts true defs texts begun last
 
+-- the replies so far are that to BEGIN and those to the first texts:
+-- however the rest goes, all together go so
+pub record GoesSoFar (defs : List TableDef) (texts rest : List Placed) (begun : List Call)
+    (replies : List Reply) (now : List Call) : Type 0 where
+  pub own : List Reply
+  pub split : replies ≡ Done ∷ own
+  pub goes : (course : Course) (last : List Call) → TextsGo true defs rest now course last
+      → TextsGo true defs texts begun (course_of own course) last
+
 -- the statements but for the rest are answered, and the transaction runs
 pub record Going (defs : List TableDef) (t : Transaction) (rest : List Placed) (begun : List Call)
     (replies : List Reply) (now : List Call) : Type 0 where
-  pub works : Works begun now
+  pub works : RowWork begun now
   pub runs : CallsSoFar defs t.statements rest begun now
+  pub so_far : GoesSoFar defs t.statements rest begun replies now
   pub said : SaidSoFar defs t rest replies now
-  pub causes : AllByRecursion (ReplyWasGiven defs begun now) replies
+  pub causes : AllByRecursion (ReplyWasGiven begun now) replies
   pub running : IsTrue (is_running now)
 
 -- the statements that have no reply yet, where the first reply is that to BEGIN
 abbrev pub rest_of : Transaction → List Reply → List Placed
 rest_of t replies = drop (length replies - 1) t.statements
 
+-- the last of the replies is that its text is spent
+pub record GoesToSpent (defs : List TableDef) (texts : List Placed) (begun : List Call)
+    (replies : List Reply) (now : List Call) : Type 0 where
+  pub own : List Reply
+  pub limit : ℕ
+  pub split : replies ≡ Done ∷ (own ++ spent_at limit ∷ [])
+  pub goes : TextsGo true defs texts begun (course_of own (StoppedBy (stops.Spent limit))) now
+
 -- a statement was spent, and what follows it is answered with NO BLOCK
 pub record CutShort (defs : List TableDef) (t : Transaction) (begun : List Call)
     (replies : List Reply) (now : List Call) : Type 0 where
-  pub works : Works begun now
+  pub works : RowWork begun now
   pub runs : RunsTexts true defs t.statements begun now
+  pub to_spent : GoesToSpent defs t.statements begun replies now
   pub said : (first : Tables) → PlaysFrom defs first now
       → TransactionAnswers t.statements t.end first (replies ++ without_block (rest_of t replies) t.end) first
-  pub causes : AllByRecursion (ReplyWasGiven defs begun now) replies
+  pub causes : AllByRecursion (ReplyWasGiven begun now) replies
   pub ended : is_running now ≡ false
   pub some : 1 ≤ length replies
   pub few : length replies ≤ length t.statements + 1
@@ -116,7 +117,7 @@ is_end call = false
 -- the calls for the texts of a block, and then for its end
 pub record Ran (defs : List TableDef) (block : Block) (begun now : List Call) : Type 0 where
   pub mid : List Call
-  pub works : Works begun mid
+  pub works : RowWork begun mid
   pub texts : RunsTexts (has_begin block) defs (texts_of block) begun mid
   pub ends : AllSince is_end mid now
 
@@ -124,8 +125,9 @@ pub record Ran (defs : List TableDef) (block : Block) (begun now : List Call) : 
 pub record Answered (defs : List TableDef) (block : Block) (begun : List Call)
     (replies : List Reply) (now : List Call) : Type 0 where
   pub ran : Ran defs block begun now
+  pub goes : Finishes defs block begun replies now
   pub means : MeansBlock defs block replies now
-  pub causes : AllByRecursion (ReplyWasGiven defs begun now) replies
+  pub causes : AllByRecursion (ReplyWasGiven begun now) replies
   pub commits : CommitsLast begun now
   pub ended : is_running now ≡ false
 
@@ -133,6 +135,7 @@ pub record Answered (defs : List TableDef) (block : Block) (begun : List Call)
 pub record Broken (defs : List TableDef) (block : Block) (begun : List Call)
     (stop : Stop) (now : List Call) : Type 0 where
   pub ran : Ran defs block begun now
+  pub broke : BrokeOff defs block begun stop now
   pub cause : IsOwnOrBy now stop
   pub halts : Halts stop
   pub kept : Uncommitted begun now

@@ -30,12 +30,12 @@ is_row_work (Stopped asked stop) = asks_rows asked
 is_row_work call = false
 
 -- nothing was called but locks, row operations and marks
-abbrev pub Works : List Call → List Call → Type 0
-Works old new = AllSince is_row_work old new
+abbrev pub RowWork : List Call → List Call → Type 0
+RowWork old new = AllSince is_row_work old new
 
 -- no lock, row operation or mark was asked for
-abbrev pub WorksNot : List Call → List Call → Type 0
-WorksNot old new = AllSince (λ call. not (is_row_work call)) old new
+abbrev pub NoRowWork : List Call → List Call → Type 0
+NoRowWork old new = AllSince (λ call. not (is_row_work call)) old new
 
 -- the calls for a statement that fits the tables: its lock first, and then its rows in order
 pub record RunsPlan (defs : List TableDef) (statement : Statement) (old new : List Call) : Type 0 where
@@ -84,6 +84,6 @@ texts_of (Transaction t) = t.statements
 pub record RunsBlock (defs : List TableDef) (block : Block) (old new : List Call) : Type 0 where
   pub begun : List Call
   pub ended : List Call
-  pub begins : WorksNot old begun
+  pub begins : NoRowWork old begun
   pub texts : RunsTexts (has_begin block) defs (texts_of block) begun ended
-  pub ends : WorksNot ended new
+  pub ends : NoRowWork ended new

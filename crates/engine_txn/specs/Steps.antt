@@ -102,14 +102,31 @@ abbrev pub RunsBehind : Stop → List Call → Type 0
 RunsBehind (stops.Die holder) calls = IsTrue (is_running calls)
 RunsBehind stop calls = ⊤
 
--- After a stop the transaction of this age is undone, but not after
--- a fault of a device, and what the try comes to is told by both
+-- the replies are these
+abbrev pub Says : Tried → List Reply → Type 0
+Says (tries.Said replies) list = replies.items ≡ list
+Says tries.Stopped list = ⊥
+Says tries.OutOfMemory list = ⊥
+Says (tries.Died holder age) list = ⊥
+
+-- behind this stop the transaction is undone
+abbrev pub IsUndoneBehind : Stop → Type 0
+IsUndoneBehind (stops.Die holder) = ⊤
+IsUndoneBehind stops.OutOfMemory = ⊤
+IsUndoneBehind (stops.Fault file) = ⊥
+IsUndoneBehind (stops.Spent limit) = ⊥
+IsUndoneBehind (stops.Refused resource) = ⊥
+
+-- After a stop the transaction of this age is undone, but not after a fault
+-- of a device, behind which nothing is called. The try comes to what the stop
+-- says, but where the undo fails for its part
 abbrev pub GivesUp : ℕ → List Call → Stop → Tried → List Call → Type 0
 GivesUp own old stop (tries.Died holder age) new =
     (stop ≡ stops.Die holder) × (age ≡ own) × IsGivenUp old new
 GivesUp own old stop tries.Stopped new = (file : FileName)
-    × (((stop ≡ stops.Fault file) × (new ≡ old)) ⊎ (new ≡ Stopped AskUndo (stops.Fault file) ∷ old))
+    × (((stop ≡ stops.Fault file) × (new ≡ old))
+    ⊎ (IsUndoneBehind stop × (new ≡ Stopped AskUndo (stops.Fault file) ∷ old)))
 GivesUp own old stop tries.OutOfMemory new =
-    ((is_running old ≡ false) × (new ≡ old)) ⊎ IsGivenUp old new
-    ⊎ (new ≡ Stopped AskUndo stops.OutOfMemory ∷ old)
+    ((stop ≡ stops.OutOfMemory) × (((is_running old ≡ false) × (new ≡ old)) ⊎ IsGivenUp old new))
+    ⊎ (IsUndoneBehind stop × (new ≡ Stopped AskUndo stops.OutOfMemory ∷ old))
 GivesUp own old stop (tries.Said replies) new = ⊥

@@ -7,17 +7,11 @@ use Rattle.plain_model.specs.declared.reply.Reply.{Reply}
 use Rattle.plain_model.specs.Calls.{Call, is_running}
 use Rattle.engine_txn.specs.declared.tried.Tried.{Tried}
 use Rattle.engine_txn.specs.declared.tried.Tried.TheVariants.{Said, Stopped, OutOfMemory, Died}
+use Rattle.engine_txn.specs.BlockRuns.{TryGoes}
 use Rattle.engine_txn.specs.BlockSaid.{BlockSaid, ReplyWasGiven}
 use Rattle.engine_txn.specs.StatementRuns.{RunsBlock}
 use Rattle.engine_txn.specs.Transactions.{CommitsLast, DiedBy, EndsByFault, IsOneTry, IsUndone}
 use Rattle.engine_txn.specs.Transactions.{Uncommitted}
-
--- the replies are these
-abbrev pub Says : Tried → List Reply → Type 0
-Says (Said replies) list = replies.items ≡ list
-Says Stopped list = ⊥
-Says OutOfMemory list = ⊥
-Says (Died holder age) list = ⊥
 
 -- a fact of the replies, where there are some
 abbrev pub IfSaid : Tried → (List Reply → Type 0) → Type 0
@@ -58,10 +52,11 @@ HasEnded Stopped new = ⊤
 -- all that is said of a try
 pub record Tries (defs : List TableDef) (age : Option ℕ) (block : Block)
     (old : List Call) (tried : Tried) (new : List Call) : Type 0 where
+  pub goes : TryGoes defs age block old tried new
   pub began : IsOneTry age old new
   pub commits : CommitsLast old new
   pub said : IfSaid tried (λ replies. BlockSaid defs age block replies old new)
-  pub causes : IfSaid tried (λ replies. AllByRecursion (ReplyWasGiven defs old new) replies)
+  pub causes : IfSaid tried (λ replies. AllByRecursion (ReplyWasGiven old new) replies)
   pub calls : RunsBlock defs block old new
   pub stopped : IfStopped tried (EndsByFault old new)
   pub died : IfDied tried (λ holder age. DiedBy holder age old new)

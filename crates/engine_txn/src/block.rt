@@ -8,15 +8,16 @@ ghost use Rattle.row_types.specs.declared.block.Block.TheVariants.{Alone, Transa
 ghost use Rattle.plain_model.specs.Blocks.{without_block};
 ghost use Rattle.plain_model.specs.Calls.{is_running};
 ghost use Rattle.engine_txn.specs.declared.read.Read.TheVariants.{Allowed};
+ghost use Rattle.engine_txn.specs.BlockRuns.{TryGoes};
 ghost use Rattle.engine_txn.specs.BlockSaid.{BlockSaid, ReplyWasGiven};
 ghost use Rattle.engine_txn.specs.Progress.{ReadAs, RunsBegun, RunsInside, rest_of};
 ghost use Rattle.engine_txn.specs.StatementRuns.{RunsBlock};
 ghost use Rattle.engine_txn.specs.Steps.{Begins, EndsAs, Fails, FailsAs, GivesUp, Halts, RunsBehind};
-ghost use Rattle.engine_txn.specs.Steps.{UndoneAs};
+ghost use Rattle.engine_txn.specs.Steps.{Says, UndoneAs};
 ghost use Rattle.engine_txn.specs.Steps.{spent_reply, with_end};
 ghost use Rattle.engine_txn.specs.Transactions.{CommitsLast, DiedBy, EndsByFault, HasBegun, IsOneTry};
 ghost use Rattle.engine_txn.specs.Transactions.{Uncommitted};
-ghost use Rattle.engine_txn.specs.Tries.{IfDied, IfSaid, IfStopped, HasEnded, IsKept, Says, Tries};
+ghost use Rattle.engine_txn.specs.Tries.{IfDied, IfSaid, IfStopped, HasEnded, IsKept, Tries};
 
 use crate::begun::Begun;
 use crate::ended::Ended;
@@ -297,6 +298,9 @@ pub fn try_block<B: BlockCalls>(
 ) -> Tried
     requires idle { is_running (B.calls calls.old) ≡ false }
     ensures schema { B.defs calls.new ≡ B.defs calls.old }
+    // The way that it goes: whether a transaction is begun, each reply with the calls that it comes from, and
+    // how the transaction ends.
+    ensures goes { TryGoes (B.defs calls.old) age block.now (B.calls calls.old) result (B.calls calls.new) }
     // At most one transaction, whose begin comes directly after the calls before.
     ensures began { IsOneTry age (B.calls calls.old) (B.calls calls.new) }
     // At most one commit, and nothing is called behind it.
@@ -306,7 +310,7 @@ pub fn try_block<B: BlockCalls>(
         (B.calls calls.old) (B.calls calls.new)) }
     // What is said to be lacking or spent is what a call gave.
     ensures causes { IfSaid result (λ replies.
-        AllByRecursion (ReplyWasGiven (B.defs calls.old) (B.calls calls.old) (B.calls calls.new)) replies) }
+        AllByRecursion (ReplyWasGiven (B.calls calls.old) (B.calls calls.new)) replies) }
     // Locks, and rows put and taken away, statement by statement, whatever the try comes to.
     ensures calls { RunsBlock (B.defs calls.old) block.now (B.calls calls.old) (B.calls calls.new) }
     // After a fault of a device nothing more is called.

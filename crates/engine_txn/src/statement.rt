@@ -2,9 +2,10 @@
 ghost use Rattle.std.specs.Prelude.{◌≡◌, IfErr, IfOk, IsTrue, OnOk};
 ghost use Rattle.plain_model.specs.declared.stop.Stop.TheVariants.{OutOfMemory as NoMemory};
 ghost use Rattle.plain_model.specs.Calls.{is_running};
-ghost use Rattle.sql_exec.specs.Means.{HasGiver, Means, Stops};
+ghost use Rattle.sql_exec.specs.Means.{Means};
 ghost use Rattle.engine_txn.specs.Progress.{AnswersText, ReadAs, RunsOr};
-ghost use Rattle.engine_txn.specs.StatementRuns.{Works};
+ghost use Rattle.engine_txn.specs.StatementRuns.{RowWork};
+ghost use Rattle.engine_txn.specs.TextRuns.{HasCause, StopsSince};
 
 use crate::BlockCalls;
 use crate::read::Read;
@@ -41,9 +42,9 @@ pub(crate) fn run_statement<B: BlockCalls>(
     ensures schema { B.defs calls.new ≡ B.defs calls.old }
     ensures means { Means (B.defs calls.old) statement (B.calls calls.old) result (B.calls calls.new) }
     ensures calls { RunsOr result (B.defs calls.old) statement (B.calls calls.old) (B.calls calls.new) }
-    ensures works { Works (B.calls calls.old) (B.calls calls.new) }
-    ensures lack { IfOk result (HasGiver (B.calls calls.old) (B.calls calls.new)) }
-    ensures end { IfErr result (Stops (B.calls calls.new)) }
+    ensures works { RowWork (B.calls calls.old) (B.calls calls.new) }
+    ensures cause { IfOk result (HasCause (B.calls calls.old) (B.calls calls.new)) }
+    ensures end { IfErr result (StopsSince (B.calls calls.old) (B.calls calls.new)) }
     ensures runs { OnOk result (IsTrue (is_running (B.calls calls.new))) }
 {
     match check(alloc, calls.schema(), statement) {
@@ -64,9 +65,9 @@ pub(crate) fn answer<B: BlockCalls>(
     requires running { IsTrue (is_running (B.calls calls.old)) }
     ensures schema { B.defs calls.new ≡ B.defs calls.old }
     ensures text { AnswersText (B.defs calls.old) text.now (B.calls calls.old) result (B.calls calls.new) }
-    ensures works { Works (B.calls calls.old) (B.calls calls.new) }
-    ensures lack { IfOk result (HasGiver (B.calls calls.old) (B.calls calls.new)) }
-    ensures end { IfErr result (Stops (B.calls calls.new)) }
+    ensures works { RowWork (B.calls calls.old) (B.calls calls.new) }
+    ensures cause { IfOk result (HasCause (B.calls calls.old) (B.calls calls.new)) }
+    ensures end { IfErr result (StopsSince (B.calls calls.old) (B.calls calls.new)) }
     ensures runs { OnOk result (IsTrue (is_running (B.calls calls.new))) }
 {
     match read(alloc, true, text)? {

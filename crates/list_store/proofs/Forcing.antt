@@ -12,7 +12,7 @@ use Rattle.plain_model.specs.Calls.{Call, is_running}
 use Rattle.plain_model.specs.declared.reply.Reply.{Reply}
 use Rattle.engine_txn.specs.Tries.{Tries}
 use Rattle.engine_txn.specs.declared.tried.Tried.{Tried}
-use Rattle.causes.specs.Causes.{one_more}
+use Rattle.base_types.specs.Causes.{one_more}
 use Rattle.disk_core.specs.declared.disk.Disk.{Ghosts}
 use Rattle.disk_core.specs.declared.store.FileName.{FileName}
 use Rattle.disk_core.specs.Moments.{LeavesNow, LeavesOnly}

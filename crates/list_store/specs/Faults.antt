@@ -1,6 +1,6 @@
 -- The faults of an opening that those of a lane's file are, and what a crash leaves while it is made empty.
 use Rattle.std.specs.Prelude.{◌≡◌, ◌⊎◌, ℕ, List}
-use Rattle.causes.specs.Causes.{one_more}
+use Rattle.base_types.specs.Causes.{one_more}
 use Rattle.disk_core.specs.declared.disk.Disk.{Ghosts}
 use Rattle.lane_format.specs.Crash.{NotOpenOrEmpty}
 use Rattle.lane_format.specs.Writer.{disk_of, even_file, lane_of}

@@ -3,7 +3,7 @@ use Rattle.std.specs.Prelude.{◌≡◌, ◌⊎◌, ℕ, List}
 use Rattle.std.specs.Option.{ForSome}
 use Rattle.row_types.specs.declared.definition.TableDef.{TableDef}
 use Rattle.row_types.specs.Tables.{Tables}
-use Rattle.causes.specs.Causes.{one_more}
+use Rattle.base_types.specs.Causes.{one_more}
 use Rattle.disk_core.specs.declared.disk.Disk.{Ghosts}
 use Rattle.disk_core.specs.Moments.{LeavesOnly, OnlyReads}
 use Rattle.lane_format.specs.Lane.{IsNotOpen}
@@ -22,10 +22,9 @@ LeftByOpening defs bytes image =
     (image ≡ bytes) ⊎ (IsNotOpen bytes × BeginsWith defs (empty_tables defs) image)
 
 module _ {D : Type 0} (d : Ghosts D) where
-  -- the disk was only read, no call changed it, and none failed
+  -- the disk was only read, and no call failed
   pub record IsUnchanged (old new : D) : Type 0 where
     pub only_reads : OnlyReads d old new
-    pub calls : d.calls new ≡ d.calls old
     pub faults : d.faults new ≡ d.faults old
 
   -- A store was opened, and has the tables that it begins with over the file.

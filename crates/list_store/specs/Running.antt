@@ -10,7 +10,7 @@ use Rattle.plain_model.specs.declared.reply.Reply.TheVariants.{Refused}
 use Rattle.plain_model.specs.declared.reply.Refusal.TheVariants as refusals
 use Rattle.op_log.specs.Changes.{body_text}
 use Rattle.op_log.specs.declared.change.RowChange.{RowChange}
-use Rattle.causes.specs.Causes.{one_more}
+use Rattle.base_types.specs.Causes.{one_more}
 use Rattle.disk_core.specs.ChangeCalls.{Made}
 use Rattle.disk_core.specs.declared.disk.Disk.{Ghosts}
 use Rattle.disk_core.specs.Moments.{LeavesNow, LeavesOnly}

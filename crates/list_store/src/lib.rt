@@ -9,7 +9,7 @@ mod reading;
 mod store;
 
 pub use answer::Answer;
-pub use causes::OutOfMemory;
+pub use base_types::OutOfMemory;
 pub use fault::OpenFault;
 pub use laws::{one_beginning, one_reading, some_reading};
 pub use store::ListStore;

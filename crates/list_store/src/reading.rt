@@ -3,7 +3,7 @@ ghost use Rattle.std.specs.Prelude.{◌≡◌, ◌≢◌, ◌↔◌, ◌+◌, �
 ghost use Rattle.std.specs.Prelude.{IsTrue, IfOk};
 ghost use Rattle.std.specs.List.{AllByRecursion};
 ghost use Rattle.std.specs.Option.{ForSome};
-ghost use Rattle.causes.specs.Causes.{HasCause, one_more};
+ghost use Rattle.base_types.specs.Causes.{HasCause, one_more};
 ghost use Rattle.disk_core.specs.declared.store.FileName.{FileName};
 ghost use Rattle.disk_core.specs.Moments.{OnlyReads};
 ghost use Rattle.op_log.specs.Changes.{IsChange, body_text};
@@ -61,7 +61,6 @@ pub(crate) fn read_log<D: Disk>(
     ensures still { ((file : FileName) → result ≢ Err (OpenFault.Disk file)) →
         D.faults disk.new ≡ D.faults disk.old }
     ensures only_reads { OnlyReads D.Disk disk.old disk.new }
-    ensures calls { D.calls disk.new ≡ D.calls disk.old }
 {
     let keeper = ListKeeper::new(alloc, schema.copy()?)?;
     keeper.history();
@@ -184,7 +183,6 @@ fn has_byte<D: Disk>(disk: &mut D, place: u64) -> Result<bool, Failed>
     ensures there { IfOk result (λ there. ForSome (D.content disk.old) (λ bytes.
         IsTrue there ↔ (place < length bytes))) }
     ensures only_reads { OnlyReads D.Disk disk.old disk.new }
-    ensures calls { D.calls disk.new ≡ D.calls disk.old }
     ensures cause { HasCause (D.faults disk.old) (D.faults disk.new) result }
 {
     let size = disk.size()?;

@@ -25,7 +25,7 @@ pub struct ListStore<D> {
 impl<D: Disk> ListStore<D> {
     ghost use Rattle.std.specs.Prelude.{◌≡◌, [], IsSome, IfOk, IfErr};
     ghost use Rattle.std.specs.Option.{ForSome};
-    ghost use Rattle.causes.specs.Causes.{one_more};
+    ghost use Rattle.base_types.specs.Causes.{one_more};
     ghost use Rattle.disk_core.specs.Moments.{LeavesNow, LeavesOnly};
     ghost use Rattle.row_types.specs.Tables.{Tables};
     ghost use Rattle.lane_format.specs.Lane.{IsLane};

@@ -13,11 +13,11 @@ mod stop;
 mod tables;
 mod values;
 
+pub use base_types::OutOfMemory;
 pub use call_laws::{
     calls_play_as_operations, marks_begin, since_composes, since_keeps, writes_are_reads,
 };
 pub use calls::{RowCalls, RowPiece};
-pub use causes::OutOfMemory;
 pub use laws::{
     kept_rows_lie_in_their_range, means_tables, one_meaning, plan_means_its_statement,
     refused_changes_nothing, rolled_back_changes_nothing, select_changes_nothing, serial_composes,

@@ -8,7 +8,7 @@ ghost use Rattle.plain_model.specs.Blocks.{block_means};
 
 use crate::rows::{copied, deletes, inserts, selects, totals, updates};
 use crate::{OutOfMemory, Refusal, Reply, Tables};
-use row_types::{Block, BlockEnd, PlacedText, Row, TableDef, Transaction, TryCopy};
+use row_types::{Block, BlockEnd, Columns, PlacedText, Row, TableDef, Transaction, TryCopy};
 use sql_check::{misfit, table_number};
 use sql_parse::{ParseFault, Statement, parse};
 use std::alloc::Global;
@@ -23,7 +23,7 @@ fn acts(
     requires { length def.now.columns ≤ 32 }
     ensures { IfOk result (λ done. (done.0, done.1.items) ≡ acts def.now statement.now rows.now) }
 {
-    let columns = def.columns.as_slice();
+    let columns = &Columns::new(def.columns.as_slice());
     match statement {
         Statement::Insert(s) => inserts(alloc, def, s.rows.as_slice(), rows),
         Statement::Select(s) => Ok((selects(alloc, columns, s, rows)?, copied(alloc, rows)?)),

@@ -11,7 +11,7 @@ ghost use Rattle.plain_model.specs.Meaning.{deletes};
 use crate::values::{cell, changed_row, is_kept};
 use crate::{OutOfMemory, Refusal, Reply};
 use key_space::Key;
-use row_types::{Column, Items, Name, Row, TableDef, TryCopy, Value, int_at};
+use row_types::{Columns, Items, Name, Row, TableDef, TryCopy, Value, int_at};
 use sql_check::{column_number, row_key};
 use sql_parse::{Change, Condition, Delete, Order, Select, Shown, Total, Totals, Update};
 use std::alloc::Global;
@@ -30,11 +30,10 @@ pub(crate) fn copied(alloc: Global, rows: &[Row]) -> Result<Vec<Row>, OutOfMemor
 /// The rows for which every condition holds.
 fn kept(
     alloc: Global,
-    columns: &[Column],
+    columns: &Columns,
     conditions: &[Condition],
     rows: &[Row],
 ) -> Result<Vec<Row>, OutOfMemory>
-    requires { length columns.now ≤ 32 }
     ensures { IfOk result (λ found. found.items ≡ kept columns.now conditions.now rows.now) }
 {
     let mut found = Vec::new(alloc);
@@ -132,8 +131,7 @@ pub(crate) fn inserts(
 // ---- SELECT
 
 /// The values of a row that are shown.
-fn shown(alloc: Global, columns: &[Column], asked: &Shown, row: &Row) -> Result<Row, OutOfMemory>
-    requires { length columns.now ≤ 32 }
+fn shown(alloc: Global, columns: &Columns, asked: &Shown, row: &Row) -> Result<Row, OutOfMemory>
     ensures { IfOk result (λ values. values ≡ shown columns.now asked.now row.now) }
 {
     let names = match asked {
@@ -172,11 +170,10 @@ fn limited(limit: Option<u64>, rows: Vec<Row>) -> Vec<Row>
 /// SELECT of columns.
 pub(crate) fn selects(
     alloc: Global,
-    columns: &[Column],
+    columns: &Columns,
     s: &Select,
     rows: &[Row],
 ) -> Result<Reply, OutOfMemory>
-    requires { length columns.now ≤ 32 }
     ensures { IfOk result (λ reply. reply
         ≡ Reply.Rows (map (shown columns.now s.now.shown)
         (limited s.now.limit (ordered s.now.order (kept columns.now s.now.conditions rows.now))))) }
@@ -188,11 +185,10 @@ pub(crate) fn selects(
 
 fn all_shown(
     alloc: Global,
-    columns: &[Column],
+    columns: &Columns,
     asked: &Shown,
     rows: &[Row],
 ) -> Result<Items<Row>, OutOfMemory>
-    requires { length columns.now ≤ 32 }
     ensures { IfOk result (λ all. all ≡ map (shown columns.now asked.now) rows.now) }
 {
     let mut all = Vec::with_capacity(alloc, rows.len())?;
@@ -203,8 +199,7 @@ fn all_shown(
 }
 
 /// The sum of a column of whole numbers.
-fn sum_of(columns: &[Column], name: &Name, rows: &[Row]) -> i128
-    requires { length columns.now ≤ 32 }
+fn sum_of(columns: &Columns, name: &Name, rows: &[Row]) -> i128
     ensures { result ≡ sum_of columns.now name.now rows.now }
 {
     let column = column_number(columns, name) as usize;
@@ -226,8 +221,7 @@ fn plus(sum: i128, number: i64) -> i128
     sum + i128::from(number)
 }
 
-fn total_of(columns: &[Column], rows: &[Row], total: &Total) -> i128
-    requires { length columns.now ≤ 32 }
+fn total_of(columns: &Columns, rows: &[Row], total: &Total) -> i128
     ensures { result ≡ total_of columns.now rows.now total.now }
 {
     match total {
@@ -239,11 +233,10 @@ fn total_of(columns: &[Column], rows: &[Row], total: &Total) -> i128
 /// The row of totals over the rows that are kept.
 fn totals_reply(
     alloc: Global,
-    columns: &[Column],
+    columns: &Columns,
     asked: &[Total],
     found: &[Row],
 ) -> Result<Reply, OutOfMemory>
-    requires { length columns.now ≤ 32 }
     ensures { IfOk result (λ reply. reply ≡ totals_reply (map (total_of columns.now found.now) asked.now)) }
 {
     let mut values = Vec::with_capacity(alloc, asked.len())?;
@@ -261,11 +254,10 @@ fn totals_reply(
 /// SELECT of totals.
 pub(crate) fn totals(
     alloc: Global,
-    columns: &[Column],
+    columns: &Columns,
     s: &Totals,
     rows: &[Row],
 ) -> Result<Reply, OutOfMemory>
-    requires { length columns.now ≤ 32 }
     ensures { IfOk result (λ reply. reply
         ≡ totals_reply (map (total_of columns.now
         (kept columns.now s.now.conditions rows.now)) s.now.totals)) }
@@ -277,11 +269,10 @@ pub(crate) fn totals(
 // ---- UPDATE and DELETE
 
 fn is_out_of_range(
-    columns: &[Column],
+    columns: &Columns,
     changes: &[Change],
     found: &[Row],
 ) -> Result<bool, OutOfMemory>
-    requires { length columns.now ≤ 32 }
     ensures { IfOk result (λ answer. answer ≡ is_out_of_range columns.now changes.now found.now) }
 {
     for row in found {
@@ -293,8 +284,7 @@ fn is_out_of_range(
 }
 
 /// A row after an UPDATE.
-fn updated(columns: &[Column], s: &Update, row: &Row) -> Result<Row, OutOfMemory>
-    requires { length columns.now ≤ 32 }
+fn updated(columns: &Columns, s: &Update, row: &Row) -> Result<Row, OutOfMemory>
     ensures { IfOk result (λ new. new ≡ updated columns.now s.now.changes s.now.conditions row.now) }
 {
     if is_kept(columns, s.conditions.as_slice(), row)? {
@@ -308,11 +298,10 @@ fn updated(columns: &[Column], s: &Update, row: &Row) -> Result<Row, OutOfMemory
 /// UPDATE.
 pub(crate) fn updates(
     alloc: Global,
-    columns: &[Column],
+    columns: &Columns,
     s: &Update,
     rows: &[Row],
 ) -> Result<(Reply, Vec<Row>), OutOfMemory>
-    requires { length columns.now ≤ 32 }
     ensures { IfOk result (λ done. (done.0, done.1.items)
         ≡ updates columns.now s.now.changes s.now.conditions rows.now) }
 {
@@ -329,11 +318,10 @@ pub(crate) fn updates(
 /// All rows after an UPDATE.
 fn all_updated(
     alloc: Global,
-    columns: &[Column],
+    columns: &Columns,
     s: &Update,
     rows: &[Row],
 ) -> Result<Vec<Row>, OutOfMemory>
-    requires { length columns.now ≤ 32 }
     ensures { IfOk result (λ all. all.items
         ≡ map (updated columns.now s.now.changes s.now.conditions) rows.now) }
 {
@@ -347,11 +335,10 @@ fn all_updated(
 /// The rows that DELETE leaves.
 fn left(
     alloc: Global,
-    columns: &[Column],
+    columns: &Columns,
     conditions: &[Condition],
     rows: &[Row],
 ) -> Result<Vec<Row>, OutOfMemory>
-    requires { length columns.now ≤ 32 }
     ensures { IfOk result (λ rest. rest.items
         ≡ filter (λ row. not (is_kept columns.now conditions.now row)) rows.now) }
 {
@@ -367,11 +354,10 @@ fn left(
 /// DELETE.
 pub(crate) fn deletes(
     alloc: Global,
-    columns: &[Column],
+    columns: &Columns,
     s: &Delete,
     rows: &[Row],
 ) -> Result<(Reply, Vec<Row>), OutOfMemory>
-    requires { length columns.now ≤ 32 }
     ensures { IfOk result (λ done. (done.0, done.1.items) ≡ deletes columns.now s.now.conditions rows.now) }
 {
     let found = kept(alloc, columns, s.conditions.as_slice(), rows)?;

@@ -27,8 +27,8 @@ pub enum Resource {
 pub enum Stop {
     /// The call changed nothing, since something is used up.
     Refused(Resource),
-    /// An older transaction, of this session, holds a lock in the way: undo, and begin again with the same
-    /// age.
+    /// An older transaction holds a lock in the way; `holder` is the number of the session that it is of. The
+    /// asking transaction is to be undone, and begun again with the same age.
     Die { holder: u16 },
     /// A device failed, at this file. Nothing is done from then on.
     Fault { file: FileName },

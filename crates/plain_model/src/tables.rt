@@ -3,6 +3,7 @@ ghost use Rattle.std.specs.Prelude.{◌≡◌, ◌<◌, [], map, length, IfOk};
 ghost use Rattle.row_types.specs.Tables.{schema_of, empty_table, AreTables, IsTableRows};
 ghost use Rattle.key_space.specs.Plays.{changed};
 ghost use Rattle.plain_model.specs.Meaning.{table_at};
+ghost use Rattle.plain_model.specs.Views.{paired};
 
 use crate::OutOfMemory;
 use row_types::{Items, Row, Schema, TableDef, TryCopy};
@@ -34,7 +35,17 @@ impl Tables {
         ensures { IfOk result (λ tables. tables ≡ map empty_table schema) }
     {
         let lists = empty_lists(alloc, schema.tables())?;
-        Ok(Tables { schema, lists })
+        Ok(Tables::from_lists(schema, lists))
+    }
+
+    /// The tables of a schema with these rows, as those of an opened database: a list for each definition, in
+    /// the order of the definitions. The rows of each list fit their definition, and their keys rise.
+    pub fn from_lists(schema: Schema, lists: Vec<Items<Row>>) -> Tables
+        requires len { length lists.items ≡ length schema }
+        requires tables { AreTables (paired schema lists.items) }
+        ensures { result ≡ paired schema lists.items }
+    {
+        Tables { schema, lists }
     }
 
     /// The definitions of the tables.

@@ -4,14 +4,13 @@ ghost use Rattle.plain_model.specs.Values.{cell, allows, compares, holds, is_kep
 ghost use Rattle.plain_model.specs.Values.{stepped, expression_value, changed_row};
 
 use crate::OutOfMemory;
-use row_types::{Column, Items, Name, Row, TryCopy, Value};
+use row_types::{Columns, Items, Name, Row, TryCopy, Value};
 use sql_check::column_number;
 use sql_parse::{Change, Comparison, Condition, Step, Term};
 use std::cmp::Ordering;
 
 /// The value of a row in the column with this name, 0 where it has none.
-pub(crate) fn cell(columns: &[Column], row: &Row, name: &Name) -> Result<Value, OutOfMemory>
-    requires { length columns.now ≤ 32 }
+pub(crate) fn cell(columns: &Columns, row: &Row, name: &Name) -> Result<Value, OutOfMemory>
     ensures { IfOk result (λ value. value ≡ cell columns.now row.now name.now) }
 {
     match row.as_slice().get(column_number(columns, name) as usize) {
@@ -47,8 +46,7 @@ fn compares(comparison: Comparison, value: &Value, other: &Value) -> bool
 }
 
 /// Whether a condition holds of a row.
-fn holds(columns: &[Column], row: &Row, condition: &Condition) -> Result<bool, OutOfMemory>
-    requires { length columns.now ≤ 32 }
+fn holds(columns: &Columns, row: &Row, condition: &Condition) -> Result<bool, OutOfMemory>
     ensures { IfOk result (λ answer. answer ≡ holds columns.now row.now condition.now) }
 {
     let value = cell(columns, row, &condition.column)?;
@@ -57,11 +55,10 @@ fn holds(columns: &[Column], row: &Row, condition: &Condition) -> Result<bool, O
 
 /// Whether every condition holds of a row.
 pub(crate) fn is_kept(
-    columns: &[Column],
+    columns: &Columns,
     conditions: &[Condition],
     row: &Row,
 ) -> Result<bool, OutOfMemory>
-    requires { length columns.now ≤ 32 }
     ensures { IfOk result (λ answer. answer ≡ is_kept columns.now conditions.now row.now) }
 {
     for condition in conditions {
@@ -73,8 +70,7 @@ pub(crate) fn is_kept(
 }
 
 /// A term: its value, or what its column has in the row.
-fn term_value(columns: &[Column], row: &Row, term: &Term) -> Result<Value, OutOfMemory>
-    requires { length columns.now ≤ 32 }
+fn term_value(columns: &Columns, row: &Row, term: &Term) -> Result<Value, OutOfMemory>
     ensures { IfOk result (λ value. value ≡ term_value columns.now row.now term.now) }
 {
     match term {
@@ -122,11 +118,10 @@ fn stepped(value: &Value, is_minus: bool, other: &Value) -> Option<Value>
 
 /// What an expression comes to on a row. `None`: a step leaves the range of numbers.
 fn expression_value(
-    columns: &[Column],
+    columns: &Columns,
     row: &Row,
     change: &Change,
 ) -> Result<Option<Value>, OutOfMemory>
-    requires { length columns.now ≤ 32 }
     ensures { IfOk result (λ value. value ≡ expression_value columns.now row.now change.now) }
 {
     let mut value = term_value(columns, row, &change.first)?;
@@ -143,11 +138,10 @@ fn expression_value(
 
 /// The new row that assignments make of a row. `None`: a step leaves the range of numbers.
 pub(crate) fn changed_row(
-    columns: &[Column],
+    columns: &Columns,
     changes: &[Change],
     row: &Row,
 ) -> Result<Option<Row>, OutOfMemory>
-    requires { length columns.now ≤ 32 }
     ensures { IfOk result (λ new. new ≡ changed_row columns.now changes.now row.now) }
 {
     let mut values = row.copy()?.into_vec();

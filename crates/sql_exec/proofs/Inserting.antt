@@ -26,7 +26,7 @@ use Rattle.plain_model.specs.Runs.{Since, keys_taken, pushed, rows_put}
 use Rattle.sql_exec.specs.declared.act.Changes.TheVariants.{Made, Duplicate}
 use Rattle.sql_exec.specs.Bodies.{CanWrite, ChangesEnd, InsertedSoFar, InsertsOne, PlanLacks, Works, here, did, stopped}
 use Rattle.sql_exec.specs.Plays.{OnTable, PlaysFrom, Turns}
-use Rattle.sql_exec.specs.Sends.{PlanSends, plan_takes}
+use Rattle.sql_exec.specs.Sends.{SendsOnly}
 use Rattle.sql_exec.proofs.Acting.{pushed_on, sends_front}
 use Rattle.sql_exec.proofs.Calling.{get_says, keys_def, put_turns}
 use Rattle.sql_exec.proofs.Fronts.{front_one, split_at}
@@ -93,10 +93,6 @@ module _ (marks : List ℕ) where
 
   pub none_inserted : (list rows : Rows) → InsertedSoFar marks list 0 rows rows
   none_inserted list rows = record { now = refl; none = refl }
-
-  pub nothing_taken : (p : InsertPlan) (rows : Rows) → plan_takes marks (Insert p) rows ≡ []
-  nothing_taken p [] = refl
-  nothing_taken p (row ∷ rows) = nothing_taken p rows
 
 -- ---- in the words of the calls
 
@@ -187,21 +183,20 @@ module _ (defs : List TableDef) (n : ℕ) (list : Rows) (i : ℕ) (row : List Va
 
     -- ---- what is sent
 
-    sends_so_far : (sent rest : Rows) (a : List Call) → p.rows ≡ sent ++ rest → rows_put a ≡ pushed sent (rows_put start) → keys_taken a ≡ keys_taken start → PlanSends defs n (Insert p) start a
-    sends_so_far sent rest a split put taken first plays =
-        sends_front sent rest [] (plan_takes (table_at (tables_of first start) n).def.keys (Insert p) (table_at (tables_of first start) n).rows) p.rows (plan_takes (table_at (tables_of first start) n).def.keys (Insert p) (table_at (tables_of first start) n).rows) start a split refl (record { put = put; taken = taken })
+    sends_so_far : (sent rest : Rows) (a : List Call) → p.rows ≡ sent ++ rest → rows_put a ≡ pushed sent (rows_put start) → keys_taken a ≡ keys_taken start → SendsOnly p.rows [] start a
+    sends_so_far sent rest a split put taken = sends_front sent rest [] [] p.rows [] start a split refl (record { put = put; taken = taken })
 
-    sent_here : (calls : List Call) → rows_put calls ≡ pushed (take i list) (rows_put start) → keys_taken calls ≡ keys_taken start → PlanSends defs n (Insert p) start calls
+    sent_here : (calls : List Call) → rows_put calls ≡ pushed (take i list) (rows_put start) → keys_taken calls ≡ keys_taken start → SendsOnly p.rows [] start calls
     sent_here calls put taken = sends_so_far (take i list) (drop i list) calls (rows_are ∙ sym (take-append-drop i list)) put taken
 
     pub put_more : (calls : List Call) → rows_put calls ≡ row ∷ rows_put old → rows_put old ≡ pushed (take i list) (rows_put start) → rows_put calls ≡ pushed (take (i + 1) list) (rows_put start)
     put_more calls one so_far = one ∙ ap (λ (l : Rows). row ∷ l) so_far ∙ sym (pushed_on (take i list) (row ∷ []) (rows_put start)) ∙ ap (λ (l : Rows). pushed l (rows_put start)) (front_one list i row less at)
 
-    pub stops_sent : (stop : Stop) → InsertsOne n key row old (Err stop) new → rows_put old ≡ pushed (take i list) (rows_put start) → keys_taken old ≡ keys_taken start → PlanSends defs n (Insert p) start new
+    pub stops_sent : (stop : Stop) → InsertsOne n key row old (Err stop) new → rows_put old ≡ pushed (take i list) (rows_put start) → keys_taken old ≡ keys_taken start → SendsOnly p.rows [] start new
     stops_sent stop (inl is) put taken = sent_here new (ap rows_put is.0 ∙ put) (ap keys_taken is.0 ∙ taken)
     stops_sent stop (inr is) put taken = sends_so_far (take (i + 1) list) (drop (i + 1) list) new (rows_are ∙ sym (take-append-drop (i + 1) list)) (put_more new (ap rows_put is.0) put) (ap keys_taken is.0 ∙ taken)
 
-    pub twice_sent : InsertsOne n key row old (Ok false) new → rows_put old ≡ pushed (take i list) (rows_put start) → keys_taken old ≡ keys_taken start → PlanSends defs n (Insert p) start new
+    pub twice_sent : InsertsOne n key row old (Ok false) new → rows_put old ≡ pushed (take i list) (rows_put start) → keys_taken old ≡ keys_taken start → SendsOnly p.rows [] start new
     twice_sent is put taken = sent_here new (ap rows_put is.1 ∙ put) (ap keys_taken is.1 ∙ taken)
 
 -- ---- all rows
@@ -220,10 +215,8 @@ module _ (defs : List TableDef) (n : ℕ) (p : InsertPlan) (list : Rows) (rows_a
   pub all_inserted : (count : ℕ) → count ≡ count_of list → OnTable defs n (InsertedSoFar (keys_at defs n) list i) start now → OnTable defs n (ChangesEnd (def_at defs n) (Insert p) (Ok (Made count))) start now
   all_inserted count is so_far = on_weaker defs n (InsertedSoFar (keys_at defs n) list i) (ChangesEnd (def_at defs n) (Insert p) (Ok (Made count))) start now (λ r s f. all_rows count is r s f) so_far
 
-  pub all_sent : rows_put now ≡ pushed (take i list) (rows_put start) → keys_taken now ≡ keys_taken start → PlanSends defs n (Insert p) start now
-  all_sent put taken first plays =
-      sends_front list [] [] (plan_takes (table_at (tables_of first start) n).def.keys (Insert p) (table_at (tables_of first start) n).rows) p.rows (plan_takes (table_at (tables_of first start) n).def.keys (Insert p) (table_at (tables_of first start) n).rows) start now
-      (rows_are ∙ sym (append-nil list)) refl (record { put = put ∙ ap (λ (l : Rows). pushed l (rows_put start)) (take_all i list past); taken = taken })
+  pub all_sent : rows_put now ≡ pushed (take i list) (rows_put start) → keys_taken now ≡ keys_taken start → SendsOnly p.rows [] start now
+  all_sent put taken = sends_front list [] [] [] p.rows [] start now (rows_are ∙ sym (append-nil list)) refl (record { put = put ∙ ap (λ (l : Rows). pushed l (rows_put start)) (take_all i list past); taken = taken })
 
 pub count_is : (list : Rows) → length list < 2 ^ 64 → length list ≡ count_of list
 count_is list less = omega (arith, less)

@@ -5,6 +5,8 @@ pub mod Fronts
 pub mod InPlaces
 pub mod Inserting
 pub mod Kept
+pub mod Keyless
+pub mod Lasting
 pub mod Naming
 pub mod OneTable
 pub mod PieceLaws

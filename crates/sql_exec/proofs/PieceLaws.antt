@@ -1,8 +1,10 @@
 -- Parts of a range: what is done with one after the other is done with the whole.
-use Rattle.std.proofs.Common.{◌≡◌, inl, inr, ℕ, ◌+◌, ◌-◌, ◌^◌, ◌<◌, ◌≤◌, min, Bool, true, false, cond, ◌||◌, List, [], ◌∷◌, ◌++◌, length, refl, sym, ap, subst, ◌∙◌, arith}
+use Rattle.std.proofs.Common.{◌≡◌, inl, inr, ℕ, ◌+◌, ◌-◌, ◌^◌, ◌<◌, ◌≤◌, min, Bool, true, false, cond, ◌||◌, List, [], ◌∷◌, ◌++◌, length, None, Some, refl, sym, ap, subst, ◌∙◌, arith}
 use Rattle.std.specs.Prelude.{◌&&◌, nat_le, nat_lt}
+use Rattle.key_space.specs.declared.range.Range.{Range}
+use Rattle.key_space.specs.Ranges.{behind}
 use Rattle.std.specs.List.{AllByRecursion, filter, flat_map, list_any}
-use Rattle.std.proofs.lemmas.Bool.{cases_lt, lt-ltb, le-ltb, le-leb, lt-leb}
+use Rattle.std.proofs.lemmas.Bool.{cases_lt, lt-ltb, le-ltb, le-leb, lt-leb, leb-false}
 use Rattle.std.proofs.lemmas.List.{append-nil, length-append}
 use Rattle.std.proofs.lemmas.List.Elements.{filter-append}
 use Rattle.std.proofs.lemmas.List.Folds.{list_any-append}
@@ -24,6 +26,17 @@ less_more a b le other = omega (arith, le, other)
 and_false : (b : Bool) → (b && false) ≡ false
 and_false true = refl
 and_false false = refl
+
+-- what lies behind a key of a range
+behind_by : (range rest : Range) (key : ℕ) (b : Bool) → nat_le range.hi.number key ≡ b → cond b None (Some (record range { lo = record range.lo { number = key + 1 } })) ≡ Some rest
+    → (rest.lo.number ≡ key + 1) × (rest.hi.number ≡ range.hi.number) × (key + 1 ≤ range.hi.number)
+behind_by range rest key true e is = absurd cc
+behind_by range rest key false e is =
+    let same : record range { lo = record range.lo { number = key + 1 } } ≡ rest = cc in
+    (ap (λ (r : Range). r.lo.number) (sym same), ap (λ (r : Range). r.hi.number) (sym same), omega (arith, leb-false range.hi.number key e))
+
+pub behind_is : (range rest : Range) (key : ℕ) → behind range key ≡ Some rest → (rest.lo.number ≡ key + 1) × (rest.hi.number ≡ range.hi.number) × (key + 1 ≤ range.hi.number)
+behind_is range rest key is = behind_by range rest key (nat_le range.hi.number key) refl is
 
 module _ (marks : List ℕ) where
   in_yes : (lo end : ℕ) (row : List Value) → lo ≤ row_key marks row → row_key marks row < end → is_in marks lo end row ≡ true

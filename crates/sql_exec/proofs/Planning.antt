@@ -38,6 +38,7 @@ use Rattle.plain_model.specs.Lacks.{AsksFor, IsReached, NeedsLock}
 use Rattle.plain_model.specs.Meaning.{acts, acts_on, count_of, inserts, limited, means, table_at, totals_reply}
 use Rattle.plain_model.specs.PlanMeaning.{passes_all, plan_acts, planned_row, planned_total, planned_update, put_in_order}
 use Rattle.plain_model.specs.Refusals.{refusal_of_check}
+use Rattle.plain_model.specs.Runs.{Since}
 use Rattle.plain_model.specs.Values.{changed_row, is_kept}
 use Rattle.plain_model.proofs.Acting.{means_acts}
 use Rattle.plain_model.proofs.PlanLaws.{plan_means}
@@ -48,11 +49,12 @@ use Rattle.sql_exec.specs.Fits.{FitsTables, IsAbout, IsNamed, NamesKept}
 use Rattle.sql_exec.specs.Means.{lock_of, name_of}
 use Rattle.sql_exec.specs.Plays.{PlaysFrom, Turns}
 use Rattle.sql_exec.specs.Selects.{in_columns}
-use Rattle.sql_exec.specs.Sends.{SendsFor, SendsOnly, keys_cleared, plan_sets, plan_takes, rows_made, rows_set}
+use Rattle.sql_exec.specs.Sends.{ChangeSends, PlanSends, Sends, SendsFor, SendsNothing, SendsOfRows, SendsOnly, keys_cleared, plan_sets, plan_takes, rows_made, rows_set}
 use Rattle.sql_exec.proofs.Calling.{columns_def, def_now, fits_now, schema_now}
 use Rattle.sql_exec.proofs.Kept.{all_more, has_key}
 use Rattle.sql_exec.proofs.Naming.{changed_planned, fault_at, kept_passes}
 use Rattle.sql_exec.proofs.OneTable.{same_changed, stays, unchanged}
+use Rattle.sql_exec.proofs.Playing.{plays_since}
 
 -- ---- tests that agree on each row
 
@@ -316,7 +318,7 @@ module _ (defs : List TableDef) (statement : Statement) (fitting : misfit defs s
   pub plan_answers : (reply : Reply) (new : Tables) → Turns number (PlanEnds (def_at defs number) (plan_of defs statement) (Ok reply)) old new → AnswersUnless None statement old reply new
   plan_answers reply new turns = answered reply new turns.others turns.rows
 
-  pub plan_sent : (new : List Call) → SendsOnly (plan_sets (plan_of defs statement) at.rows) (plan_takes at.def.keys (plan_of defs statement) at.rows) start new → SendsFor at statement start new
+  plan_sent : (new : List Call) → SendsOnly (plan_sets (plan_of defs statement) at.rows) (plan_takes at.def.keys (plan_of defs statement) at.rows) start new → SendsFor at statement start new
   plan_sent new sends =
       let there = subst (λ (d : TableDef). SendsOnly (plan_sets (plan_on number d statement) at.rows) (plan_takes at.def.keys (plan_on number d statement) at.rows) start new) (sym def_is) sends in
       subst (λ (keys : List ℕ). SendsOnly (rows_set at.def statement at.rows) keys start new) (takes_same at number rows_fit statement no_fault)
@@ -433,5 +435,48 @@ behind_lock defs first name mode calls plays = record { tables = plays.tables; s
 pub behind_stop : (defs : List TableDef) (first : Tables) (asked : Asked) (stop : Stop) (calls : List Call) → PlaysFrom defs first (Stopped asked stop ∷ calls) → PlaysFrom defs first calls
 behind_stop defs first asked stop calls plays = record { tables = plays.tables; schema = plays.schema; answers = plays.answers; lacks = plays.lacks.1 }
 
-pub sends_behind : (name : LockName) (mode : Mode) (start new : List Call) (rows : Rows) (keys : List ℕ) → SendsOnly rows keys (Locked name mode ∷ start) new → SendsOnly rows keys start new
+sends_behind : (name : LockName) (mode : Mode) (start new : List Call) (rows : Rows) (keys : List ℕ) → SendsOnly rows keys (Locked name mode ∷ start) new → SendsOnly rows keys start new
 sends_behind name mode start new rows keys sends = record { put = sends.put; taken = sends.taken }
+
+front_of : (rows : Rows) (keys : List ℕ) (start new : List Call) → SendsNothing start new → SendsOnly rows keys start new
+front_of rows keys start new none = record {
+  put = record { sent = []; rest = rows; front = refl; added = none.put };
+  taken = record { sent = []; rest = keys; front = refl; added = none.taken };
+}
+
+none_behind : (name : LockName) (mode : Mode) (start new : List Call) → SendsNothing (Locked name mode ∷ start) new → SendsNothing start new
+none_behind name mode start new sends = record { put = sends.put; taken = sends.taken }
+
+module _ (defs : List TableDef) (statement : Statement) (fitting : misfit defs statement ≡ None) (name : LockName) (mode : Mode) (start new : List Call) (since : Since (Locked name mode ∷ start) new)
+    (named : lock_of (plan_of defs statement) ≡ Some name) where
+  -- wherever the calls are those of some tables
+  rows_sent : ChangeSends defs name.table (plan_of defs statement) (Locked name mode ∷ start) new → SendsOfRows defs statement start new
+  rows_sent sends first plays =
+      let was = behind_lock defs first name mode start (plays_since defs first (Locked name mode ∷ start) new since plays) in
+      let is = lock_table defs statement fitting first start was name named in
+      plan_sent defs statement fitting first start was new (sends_behind name mode start new _ _ (subst (λ (n : ℕ). ChangeSends defs n (plan_of defs statement) (Locked name mode ∷ start) new) is sends first plays))
+
+-- the calls behind the lock send what the statement says
+pub locked_sent : (defs : List TableDef) (statement : Statement) → misfit defs statement ≡ None → (name : LockName) (mode : Mode) (start new : List Call) → Since (Locked name mode ∷ start) new
+    → lock_of (plan_of defs statement) ≡ Some name → PlanSends defs name.table (plan_of defs statement) (Locked name mode ∷ start) new → Sends defs statement start new
+locked_sent defs (statements.Insert s) fitting name mode start new since named sends = sends_behind name mode start new s.rows [] sends
+locked_sent defs (statements.Update s) fitting name mode start new since named sends = rows_sent defs (statements.Update s) fitting name mode start new since named sends
+locked_sent defs (statements.Delete s) fitting name mode start new since named sends = rows_sent defs (statements.Delete s) fitting name mode start new since named sends
+locked_sent defs (statements.Select s) fitting name mode start new since named sends = none_behind name mode start new sends
+locked_sent defs (statements.Totals s) fitting name mode start new since named sends = none_behind name mode start new sends
+locked_sent defs (statements.Create created) fitting name mode start new since named sends = none_behind name mode start new sends
+locked_sent defs statements.Begin fitting name mode start new since named sends = none_behind name mode start new sends
+locked_sent defs statements.Commit fitting name mode start new since named sends = none_behind name mode start new sends
+locked_sent defs statements.Rollback fitting name mode start new since named sends = none_behind name mode start new sends
+
+-- calls that put no row and take none away send the front of whatever is to be sent
+pub quiet_sent : (defs : List TableDef) (statement : Statement) (start new : List Call) → SendsNothing start new → Sends defs statement start new
+quiet_sent defs (statements.Insert s) start new none = front_of s.rows [] start new none
+quiet_sent defs (statements.Update s) start new none = λ first plays. front_of _ _ start new none
+quiet_sent defs (statements.Delete s) start new none = λ first plays. front_of _ _ start new none
+quiet_sent defs (statements.Select s) start new none = none
+quiet_sent defs (statements.Totals s) start new none = none
+quiet_sent defs (statements.Create created) start new none = none
+quiet_sent defs statements.Begin start new none = none
+quiet_sent defs statements.Commit start new none = none
+quiet_sent defs statements.Rollback start new none = none

@@ -1,11 +1,11 @@
 -- What is read of a range, piece by piece.
-use Rattle.std.proofs.Common.{◌≡◌, inl, inr, ℕ, ℤ, zero, suc, ◌+◌, ◌^◌, ◌≤◌, map, reverse, true, false, List, [], ◌∷◌, ◌++◌, length, Option, None, Some, IsTrue, Result, Ok, Err, refl, sym, ap, subst, ◌∙◌, arith}
+use Rattle.std.proofs.Common.{◌≡◌, inl, inr, ℕ, ℤ, zero, suc, ◌+◌, ◌^◌, ◌≤◌, map, reverse, true, false, List, [], ◌∷◌, ◌++◌, length, Option, None, Some, IsTrue, Result, Ok, Err, IfOk, refl, sym, ap, subst, ◌∙◌, arith}
 use Rattle.row_types.specs.declared.definition.TableDef.{TableDef}
 use Rattle.row_types.specs.declared.row.Value.{Value}
 use Rattle.row_types.specs.Schema.{columns_at, keys_at}
 use Rattle.std.specs.List.{AllByRecursion, filter}
 use Rattle.std.proofs.lemmas.Bool.{cases_lt}
-use Rattle.std.proofs.lemmas.List.{length-map, map-append, take-map}
+use Rattle.std.proofs.lemmas.List.{length-map, map-append}
 use Rattle.std.proofs.lemmas.Grind.{reverse_onto}
 use Rattle.row_types.specs.Tables.{TableRows, Tables}
 use Rattle.sql_check.specs.Columns.{def_at}
@@ -35,10 +35,10 @@ use Rattle.sql_exec.specs.Acts.{is_in, rows_in}
 use Rattle.sql_exec.specs.Bodies.{CanRead, PlanEnds, Works, goes_back, here, did, stopped}
 use Rattle.sql_exec.specs.Means.{IsNoLack, Stops}
 use Rattle.sql_exec.specs.Plays.{OnTable, PlaysFrom, Turns}
-use Rattle.sql_exec.specs.Selects.{Found, GoesOver, in_columns, shown_of, sums_of}
+use Rattle.sql_exec.specs.Selects.{Found, FoundInOrder, GoesOver, in_columns, shown_of, sums_of}
 use Rattle.sql_exec.specs.Sends.{SendsNothing}
 use Rattle.sql_exec.proofs.Calling.{part_says, schema_now}
-use Rattle.sql_exec.proofs.OneTable.{stays}
+use Rattle.sql_exec.proofs.OneTable.{on_weaker, stays}
 use Rattle.sql_exec.proofs.PieceLaws.{between, rows_split}
 use Rattle.sql_exec.proofs.Playing.{plays_since, read_since}
 use Rattle.sql_exec.proofs.Ranging.{Ordered, ordered_at}
@@ -77,11 +77,11 @@ module _ (n mid upto : ℕ) (list : Rows) (start old new : List Call) (told : ne
   pub read_runs : IsTrue (is_running old) → IsTrue (is_running new)
   read_runs runs = subst (λ (calls : List Call). IsTrue (is_running calls)) (sym told) runs
 
-  pub read_can : (lo hi from : ℕ) → lo ≤ from → CanRead old n lo hi → CanRead new n from hi
-  read_can lo hi from up can =
+  pub read_can : (lo hi from to : ℕ) → lo ≤ from → to ≤ hi → CanRead old n lo hi → CanRead new n from to
+  read_can lo hi from to up down can =
       let since = subst (Since old) (sym told) (runs.did _ _ runs.here) in
       let may = read_since old new n lo hi since can.1 in
-      (read_runs can.0, record { table_is = may.table_is; locked = λ key low high. may.locked key (omega (arith, up, low)) high })
+      (read_runs can.0, record { table_is = may.table_is; locked = λ key low high. may.locked key (omega (arith, up, low)) (omega (arith, down, high)) })
 
   module _ (defs : List TableDef) (lo : ℕ) (low : lo ≤ mid) (up : mid ≤ upto) (earlier : Since start old) where
     abbrev marks : List ℕ
@@ -188,6 +188,10 @@ reads_stop defs n Ends old new works sent any first plays =
 pub err_ends : (def : TableDef) (plan : Plan) (stop : Stop) (result : Result Reply Stop) (r : Rows) → result ≡ Err stop → PlanEnds def plan result r r
 err_ends def plan stop result r is = subst (λ (x : Result Reply Stop). PlanEnds def plan x r r) (sym is) tt
 
+pub ok_weaker : {A : Type 0} (result : Result A Stop) (P Q : A → Type 0) → ((x : A) → P x → Q x) → IfOk result P → IfOk result Q
+ok_weaker (Ok x) P Q more is = more x is
+ok_weaker (Err stop) P Q more is = tt
+
 map_reverse : {A B : Type 0} (f : A → B) (xs : List A) → map f (reverse xs) ≡ reverse (map f xs)
 map_reverse f [] = refl
 map_reverse f (x ∷ xs) = ap (map f) (reverse_onto xs x []) ∙ map-append f (reverse xs) (x ∷ []) ∙ ap (λ l. l ++ f x ∷ []) (map_reverse f xs) ∙ sym (reverse_onto (map f xs) (f x) [])
@@ -212,33 +216,38 @@ module _ (defs : List TableDef) (n : ℕ) (range : Range) (tests : List Test) (k
   pub passing_all : (first : Tables) → PlaysFrom defs first new → filter (passes_all tests) (rows_in (keys_at defs n) range.lo.number (range.hi.number + 1) (table_at (tables_of first start) n).rows) ≡ filter (passes_all tests) (table_at (tables_of first start) n).rows
   passing_all first plays = kept_all (keys_at defs n) tests range.lo.number (range.hi.number + 1) (table_at (tables_of first start) n).rows (fails_at first start (plays_since defs first start new since plays))
 
-module _ (defs : List TableDef) (p : SelectPlan) (range : Range) (kept : NamesKept defs p.table (Some range) p.conditions) (start new : List Call) (since : Since start new) where
+module _ (defs : List TableDef) (p : SelectPlan) (range : Range) (start new : List Call) where
   abbrev shown_row : List Value → List Value
   shown_row = in_columns p.columns
 
-  pub select_rising : (found : Rows) → p.is_falling ≡ false → OnTable defs p.table (Found (keys_at defs p.table) range p p.limit found) start new → OnTable defs p.table (PlanEnds (def_at defs p.table) (Select p) (Ok (replies.Rows found))) start new
-  select_rising found rising body first plays =
+  abbrev keys : List ℕ
+  keys = keys_at defs p.table
+
+  abbrev kept_of : Rows → Rows
+  kept_of r = filter (passes_all p.conditions) (rows_in keys range.lo.number (range.hi.number + 1) r)
+
+  pub rising_order : (found : Rows) → p.is_falling ≡ false → OnTable defs p.table (Found keys range p p.limit found) start new → OnTable defs p.table (FoundInOrder keys range p found) start new
+  rising_order found rising body =
+      on_weaker defs p.table (Found keys range p p.limit found) (FoundInOrder keys range p found) start new
+      (λ r s f. (f.0 ∙ ap (λ b. map shown_row (limited p.limit (put_in_order b (kept_of r)))) (sym rising), f.1)) body
+
+  pub falling_order : (found said : Rows) → p.is_falling ≡ true → p.limit ≡ None → said ≡ reverse found → OnTable defs p.table (Found keys range p None found) start new → OnTable defs p.table (FoundInOrder keys range p said) start new
+  falling_order found said falling none is body =
+      on_weaker defs p.table (Found keys range p None found) (FoundInOrder keys range p said) start new
+      (λ r s f. (
+        is ∙ ap reverse f.0 ∙ sym (map_reverse shown_row (kept_of r)) ∙ ap (λ b. map shown_row (put_in_order b (kept_of r))) (sym falling)
+            ∙ ap (λ o. map shown_row (limited o (put_in_order p.is_falling (kept_of r)))) (sym none),
+        f.1,
+      )) body
+
+  -- what was found is what the plan shows
+  pub select_ends : NamesKept defs p.table (Some range) p.conditions → Since start new → (found : Rows) → OnTable defs p.table (FoundInOrder keys range p found) start new → OnTable defs p.table (PlanEnds (def_at defs p.table) (Select p) (Ok (replies.Rows found))) start new
+  select_ends kept since found body first plays =
       let turns = body first plays in
       let rows = (table_at (tables_of first start) p.table).rows in
       let all = passing_all defs p.table range p.conditions kept start new since first plays in
-      let shown : found ≡ map shown_row (limited p.limit (put_in_order p.is_falling (filter (passes_all p.conditions) rows))) =
-      turns.rows.0 ∙ ap (λ (l : Rows). map shown_row (limited p.limit l)) all ∙ ap (λ b. map shown_row (limited p.limit (put_in_order b (filter (passes_all p.conditions) rows)))) (sym rising) in
+      let shown : found ≡ map shown_row (limited p.limit (put_in_order p.is_falling (filter (passes_all p.conditions) rows))) = turns.rows.0 ∙ ap (λ (l : Rows). map shown_row (limited p.limit (put_in_order p.is_falling l))) all in
       record { others = turns.others; rows = inl (ap (λ (l : Rows). (replies.Rows l, rows)) (sym shown) ∙ ap (λ (l : Rows). (replies.Rows found, l)) (sym turns.rows.1)) }
-
-  limited_map : (limit : Option ℕ) (l : Rows) → limited limit (map shown_row l) ≡ map shown_row (limited limit l)
-  limited_map None l = refl
-  limited_map (Some limit) l = take-map shown_row limit l
-
-  pub select_falling : (found said : Rows) → p.is_falling ≡ true → said ≡ limited p.limit (reverse found) → OnTable defs p.table (Found (keys_at defs p.table) range p None found) start new → OnTable defs p.table (PlanEnds (def_at defs p.table) (Select p) (Ok (replies.Rows said))) start new
-  select_falling found said falling is body first plays =
-      let turns = body first plays in
-      let rows = (table_at (tables_of first start) p.table).rows in
-      let all = passing_all defs p.table range p.conditions kept start new since first plays in
-      let passing = filter (passes_all p.conditions) rows in
-      let turned : reverse found ≡ map shown_row (reverse passing) = ap reverse (turns.rows.0 ∙ ap (map shown_row) all) ∙ sym (map_reverse shown_row passing) in
-      let shown : said ≡ map shown_row (limited p.limit (put_in_order p.is_falling passing)) =
-      is ∙ ap (limited p.limit) turned ∙ limited_map p.limit (reverse passing) ∙ ap (λ b. map shown_row (limited p.limit (put_in_order b passing))) (sym falling) in
-      record { others = turns.others; rows = inl (ap (λ (l : Rows). (replies.Rows l, rows)) (sym shown) ∙ ap (λ (l : Rows). (replies.Rows said, l)) (sym turns.rows.1)) }
 
 -- ---- totals
 

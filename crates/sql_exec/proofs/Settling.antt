@@ -19,7 +19,7 @@ use Rattle.sql_exec.specs.declared.act.Changes.TheVariants.{Made, Duplicate, Out
 use Rattle.sql_exec.specs.Bodies.{ChangesEnd, IsSettled, IsUndone, PlanEnds}
 use Rattle.sql_exec.specs.Means.{IsNoLack}
 use Rattle.sql_exec.specs.Plays.{OnTable, Turns}
-use Rattle.sql_exec.specs.Sends.{PlanSends}
+use Rattle.sql_exec.specs.Sends.{ChangeSends, SendsOnly}
 use Rattle.sql_exec.proofs.OneTable.{stays, weaker}
 use Rattle.sql_exec.proofs.Playing.{plays_since, undone}
 
@@ -105,13 +105,16 @@ settled_sent mark (Err (stops.Spent limit)) mid result new is = (ap rows_put is.
 settled_sent mark (Err stops.OutOfMemory) mid result new is = (ap rows_put is.1, ap keys_taken is.1)
 
 -- the calls that settle a statement send nothing
-pub plan_sent : (defs : List TableDef) (n : ℕ) (plan : Plan) (mark : ℕ) (ended : Result Changes Stop) (old mid : List Call) (result : Result Reply Stop) (new : List Call) → IsSettled mark ended mid result new → PlanSends defs n plan old mid → PlanSends defs n plan old new
-plan_sent defs n plan mark ended old mid result new is body first plays =
-    let sends = body first (plays_since defs first mid new (settled_since mark ended mid result new is) plays) in
+pub settled_only : (rows : Rows) (keys : List ℕ) (mark : ℕ) (ended : Result Changes Stop) (old mid : List Call) (result : Result Reply Stop) (new : List Call) → IsSettled mark ended mid result new → SendsOnly rows keys old mid → SendsOnly rows keys old new
+settled_only rows keys mark ended old mid result new is sends =
     let same = settled_sent mark ended mid result new is in record {
       put = record { sent = sends.put.sent; rest = sends.put.rest; front = sends.put.front; added = same.0 ∙ sends.put.added };
       taken = record { sent = sends.taken.sent; rest = sends.taken.rest; front = sends.taken.front; added = same.1 ∙ sends.taken.added };
     }
+
+pub change_sent : (defs : List TableDef) (n : ℕ) (plan : Plan) (mark : ℕ) (ended : Result Changes Stop) (old mid : List Call) (result : Result Reply Stop) (new : List Call) → IsSettled mark ended mid result new → ChangeSends defs n plan old mid → ChangeSends defs n plan old new
+change_sent defs n plan mark ended old mid result new is body first plays =
+    settled_only _ _ mark ended old mid result new is (body first (plays_since defs first mid new (settled_since mark ended mid result new is) plays))
 
 -- a mark that isn't given ends the statement
 pub no_mark : (defs : List TableDef) (n : ℕ) (def : TableDef) (plan : Plan) (stop : Stop) (result : Result Reply Stop) (old new : List Call) → result ≡ Err stop → new ≡ Stopped AskMark stop ∷ old → OnTable defs n (PlanEnds def plan result) old new

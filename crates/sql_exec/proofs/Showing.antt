@@ -34,10 +34,10 @@ module _ (p : SelectPlan) where
   fewer : (limit : ℕ) (rows : Rows) → enough (Some limit) (length (shown_of p (Some limit) rows)) ≡ false → length (passing rows) < limit
   fewer limit rows e = omega (arith, leb-false limit (length (shown_of p (Some limit) rows)) e, shown_len limit rows)
 
-  one_kept : (row : List Value) (rows : Rows) → passes_all p.conditions row ≡ true → passing (rows ++ row ∷ []) ≡ passing rows ++ row ∷ []
+  pub one_kept : (row : List Value) (rows : Rows) → passes_all p.conditions row ≡ true → passing (rows ++ row ∷ []) ≡ passing rows ++ row ∷ []
   one_kept row rows passes = filter-append (passes_all p.conditions) rows (row ∷ []) ∙ rw passes refl
 
-  none_kept : (row : List Value) (rows : Rows) → passes_all p.conditions row ≡ false → passing (rows ++ row ∷ []) ≡ passing rows ++ []
+  pub none_kept : (row : List Value) (rows : Rows) → passes_all p.conditions row ≡ false → passing (rows ++ row ∷ []) ≡ passing rows ++ []
   none_kept row rows fails = filter-append (passes_all p.conditions) rows (row ∷ []) ∙ rw fails refl
 
   shown_one : (wanted : Option ℕ) (rows : Rows) (row : List Value) → enough wanted (length (shown_of p wanted rows)) ≡ false → limited wanted (passing rows ++ row ∷ []) ≡ limited wanted (passing rows) ++ row ∷ []

@@ -37,7 +37,7 @@ use Rattle.sql_exec.specs.Bodies.{ActedSoFar, ChangesEnd, ChangesRow}
 use Rattle.sql_exec.specs.Fits.{NamesKept, tests_of}
 use Rattle.sql_exec.specs.Pieces.{ComesTo, IsOfTable, SendsAll}
 use Rattle.sql_exec.specs.Plays.{OnTable, PlaysFrom}
-use Rattle.sql_exec.specs.Sends.{PlanSends, SendsOnly, plan_sets, plan_takes}
+use Rattle.sql_exec.specs.Sends.{ChangeSends, SendsOnly, plan_sets, plan_takes}
 use Rattle.sql_exec.proofs.Acting.{puts, sends_front, takes}
 use Rattle.sql_exec.proofs.Calling.{keys_now, schema_now, tables_now}
 use Rattle.sql_exec.proofs.PieceLaws.{KeepsOutside, acted_all, map_all, some_all, tests_all}
@@ -349,7 +349,7 @@ module _ (defs : List TableDef) (n : ℕ) (plan : Plan) (of : IsOfTable defs n p
       record { others = turns.others; rows = stop_rows defs n range.lo.number range.hi.number _ _ plan of (fails_at first plays) stop turns.rows }
 
   pub all_sent : ((first : Tables) → PlaysFrom defs first new → SendsOnly (flat_map (puts (keys_at defs n) (act_of plan)) (rows_in (keys_at defs n) range.lo.number (range.hi.number + 1) (table_at (tables_of first start) n).rows))
-      (flat_map (takes (keys_at defs n) (act_of plan)) (rows_in (keys_at defs n) range.lo.number (range.hi.number + 1) (table_at (tables_of first start) n).rows)) start new) → PlanSends defs n plan start new
+      (flat_map (takes (keys_at defs n) (act_of plan)) (rows_in (keys_at defs n) range.lo.number (range.hi.number + 1) (table_at (tables_of first start) n).rows)) start new) → ChangeSends defs n plan start new
   all_sent sends first plays =
       let rows = (table_at (tables_of first start) n).rows in
       let was = plays_since defs first start new since plays in

@@ -6,3 +6,4 @@ pub mod Pieces
 pub mod Plays
 pub mod Selects
 pub mod Sends
+pub mod Windows

@@ -1,5 +1,5 @@
 -- What a statement that is run comes to.
-use Rattle.std.specs.Prelude.{◌≡◌, ◌⊎◌, ℕ, List, ◌∷◌, Option, None, Some, Result, IfOk, ⊤}
+use Rattle.std.specs.Prelude.{◌≡◌, ◌⊎◌, ℕ, List, ◌∷◌, Option, None, Some, Result, Ok, Err, IfOk, ⊤}
 use Rattle.row_types.specs.declared.definition.TableDef.{TableDef}
 use Rattle.row_types.specs.Tables.{Tables}
 use Rattle.key_space.specs.declared.lock.LockName.{LockName}
@@ -88,6 +88,11 @@ abbrev pub IsNoLackReply : Reply → Type 0
 IsNoLackReply (replies.Refused (refusals.Resource resource)) = ⊥
 IsNoLackReply reply = ⊤
 
+-- the reply isn't that as many transactions, checkpoints or turns as there may be were made
+abbrev pub IsNotSpentReply : Reply → Type 0
+IsNotSpentReply (replies.Refused (refusals.Spent limit)) = ⊥
+IsNotSpentReply reply = ⊤
+
 -- a reply that a resource is lacking has its cause
 abbrev pub HasGiver : List Call → List Call → Reply → Type 0
 HasGiver old new (replies.Refused (refusals.Resource resource)) = WasGiven resource old new
@@ -109,3 +114,9 @@ IsOwnOrBy calls stop = (stop ≡ stops.OutOfMemory) ⊎ EndsBy calls stop
 pub record Stops (calls : List Call) (stop : Stop) : Type 0 where
   pub cause : IsOwnOrBy calls stop
   pub kind : IsNoLack stop
+
+-- what comes of a statement is its own, since nothing was called: it says
+-- nothing to be lacking, and only memory may have run out
+abbrev pub IsOwn : Result Reply Stop → Type 0
+IsOwn (Ok reply) = IsNoLackReply reply
+IsOwn (Err stop) = stop ≡ stops.OutOfMemory

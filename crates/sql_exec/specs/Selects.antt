@@ -11,7 +11,7 @@ use Rattle.sql_check.specs.declared.plan.TotalPlan.{TotalPlan}
 use Rattle.sql_check.specs.declared.plan.TotalPlan.TheVariants as sums
 use Rattle.sql_check.specs.declared.plan.TotalsPlan.{TotalsPlan}
 use Rattle.plain_model.specs.Meaning.{limited}
-use Rattle.plain_model.specs.PlanMeaning.{passes_all, planned_total}
+use Rattle.plain_model.specs.PlanMeaning.{passes_all, planned_total, put_in_order}
 use Rattle.plain_model.specs.Values.{value_at}
 use Rattle.sql_exec.specs.Acts.{rows_in}
 
@@ -31,6 +31,16 @@ sums_of p rows = map (planned_total (filter (passes_all p.conditions) rows)) p.t
 abbrev pub Found : List ℕ → Range → SelectPlan → Option ℕ → Rows → Rows → Rows → Type 0
 Found marks range p wanted found old new =
     (found ≡ shown_of p wanted (rows_in marks range.lo.number (range.hi.number + 1) old)) × (new ≡ old)
+
+-- they were found in the order that is asked for, at most LIMIT of them
+abbrev pub FoundInOrder : List ℕ → Range → SelectPlan → Rows → Rows → Rows → Type 0
+FoundInOrder marks range p found old new =
+    (found
+    ≡ map (in_columns p.columns)
+    (limited p.limit
+    (put_in_order p.is_falling
+    (filter (passes_all p.conditions) (rows_in marks range.lo.number (range.hi.number + 1) old)))))
+    × (new ≡ old)
 
 -- what a row adds to a total
 abbrev pub part_of : List Value → TotalPlan → ℤ

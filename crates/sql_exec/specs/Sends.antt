@@ -66,10 +66,18 @@ SendsFor t statement old new =
     SendsOnly (rows_set t.def statement t.rows) (keys_cleared t.def statement t.rows) old new
 
 -- wherever the calls are those of some tables
-abbrev pub Sends : List TableDef → Statement → List Call → List Call → Type 0
-Sends defs statement old new =
+abbrev pub SendsOfRows : List TableDef → Statement → List Call → List Call → Type 0
+SendsOfRows defs statement old new =
     (first : Tables) → PlaysFrom defs first new
     → SendsFor (table_at (tables_of first old) (number_of defs statement)) statement old new
+
+-- what the calls for a statement send: of the rows that the table has for UPDATE and DELETE,
+-- of those that it lists for INSERT, whatever the tables are, and for the others nothing
+abbrev pub Sends : List TableDef → Statement → List Call → List Call → Type 0
+Sends defs (statements.Insert s) old new = SendsOnly s.rows [] old new
+Sends defs (statements.Update s) old new = SendsOfRows defs (statements.Update s) old new
+Sends defs (statements.Delete s) old new = SendsOfRows defs (statements.Delete s) old new
+Sends defs statement old new = SendsNothing old new
 
 -- ---- By the numbers of columns
 
@@ -83,9 +91,16 @@ abbrev pub plan_takes : List ℕ → Plan → Rows → List ℕ
 plan_takes marks plan rows = flat_map (λ row. taken_by marks (act_of plan row) row) rows
 
 -- wherever the calls are those of some tables, they send what a plan sets and takes away of table n
-abbrev pub PlanSends : List TableDef → ℕ → Plan → List Call → List Call → Type 0
-PlanSends defs n plan old new =
+abbrev pub ChangeSends : List TableDef → ℕ → Plan → List Call → List Call → Type 0
+ChangeSends defs n plan old new =
     (first : Tables) → PlaysFrom defs first new
     → SendsOnly (plan_sets plan (table_at (tables_of first old) n).rows)
     (plan_takes (table_at (tables_of first old) n).def.keys plan
     (table_at (tables_of first old) n).rows) old new
+
+-- what the calls for any plan send
+abbrev pub PlanSends : List TableDef → ℕ → Plan → List Call → List Call → Type 0
+PlanSends defs n (plans.Insert p) old new = SendsOnly p.rows [] old new
+PlanSends defs n (plans.Update p) old new = ChangeSends defs n (plans.Update p) old new
+PlanSends defs n (plans.Delete p) old new = ChangeSends defs n (plans.Delete p) old new
+PlanSends defs n plan old new = SendsNothing old new

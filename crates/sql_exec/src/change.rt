@@ -14,17 +14,17 @@ ghost use Rattle.plain_model.specs.Meaning.{table_at};
 ghost use Rattle.plain_model.specs.Runs.{Since};
 ghost use Rattle.sql_exec.specs.Acts.{act_of};
 ghost use Rattle.sql_exec.specs.Bodies.{CanWrite, ChangesEnd, PlanEnds, Works};
-ghost use Rattle.sql_exec.specs.Means.{HasGiver, IsOwnOrBy, Stops};
+ghost use Rattle.sql_exec.specs.Means.{HasGiver, IsNotSpentReply, IsOwnOrBy, Stops};
 ghost use Rattle.sql_exec.specs.Fits.{NamesKept, tests_of};
 ghost use Rattle.sql_exec.specs.Pieces.{ActsOne, ActsAll, IsOfTable, PieceEnds, PieceSends};
 ghost use Rattle.sql_exec.specs.Plays.{OnTable, PlaysFrom};
-ghost use Rattle.sql_exec.specs.Sends.{PlanSends};
+ghost use Rattle.sql_exec.specs.Sends.{ChangeSends};
 
 use crate::OutOfMemory;
 use crate::act::{Act, Changes, Passed};
 use crate::settle::settle;
 use crate::values::{passes_all, planned_row};
-use key_space::{Key, Range, key_of};
+use key_space::{Range, key_of};
 use plain_model::{Reply, RowCalls, Stop};
 use row_types::Row;
 use sql_check::{Plan, UpdatePlan};
@@ -187,7 +187,7 @@ fn change_all<R: RowCalls>(
     ensures plain { OnTable (R.defs rows.old) table
         (ChangesEnd (def_at (R.defs rows.old) table) plan.now result)
         (R.calls rows.old) (R.calls rows.new) }
-    ensures sent { PlanSends (R.defs rows.old) table plan.now (R.calls rows.old) (R.calls rows.new) }
+    ensures sent { ChangeSends (R.defs rows.old) table plan.now (R.calls rows.old) (R.calls rows.new) }
 {
     let mut rest = range;
     let mut count: u64 = 0;
@@ -196,12 +196,10 @@ fn change_all<R: RowCalls>(
             return Ok(Changes::OutOfRange);
         };
         count = count.saturating_add(passed.count);
-        if passed.upto == rest.hi {
+        let Some(more) = rest.behind(passed.upto) else {
             return Ok(Changes::Made(count));
-        }
-        rest.lo = Key {
-            number: passed.upto.number + 1,
         };
+        rest = more;
     }
 }
 
@@ -222,10 +220,11 @@ pub(crate) fn change<R: RowCalls>(
     ensures runs { OnOk result (IsTrue (is_running (R.calls rows.new))) }
     ensures end { IfErr result (Stops (R.calls rows.new)) }
     ensures lack { IfOk result (HasGiver (R.calls rows.old) (R.calls rows.new)) }
+    ensures spent { IfOk result IsNotSpentReply }
     ensures plain { OnTable (R.defs rows.old) table
         (PlanEnds (def_at (R.defs rows.old) table) plan.now result)
         (R.calls rows.old) (R.calls rows.new) }
-    ensures sent { PlanSends (R.defs rows.old) table plan.now (R.calls rows.old) (R.calls rows.new) }
+    ensures sent { ChangeSends (R.defs rows.old) table plan.now (R.calls rows.old) (R.calls rows.new) }
 {
     let mark = rows.mark()?;
     let changes = change_all(alloc, rows, table, plan, range);

@@ -1,5 +1,5 @@
 // INSERT: each row is put where there is none of its key.
-ghost use Rattle.std.specs.Prelude.{◌≡◌, ◌<◌, length, IfErr, IfOk, IsTrue, OnOk, Some};
+ghost use Rattle.std.specs.Prelude.{◌≡◌, ◌<◌, [], length, IfErr, IfOk, IsTrue, OnOk, Some};
 ghost use Rattle.std.specs.List.{AllByRecursion};
 ghost use Rattle.row_types.specs.Keys.{row_key};
 ghost use Rattle.row_types.specs.Schema.{columns_at, keys_at};
@@ -10,9 +10,9 @@ ghost use Rattle.plain_model.specs.Calls.{is_running};
 ghost use Rattle.plain_model.specs.Runs.{Since};
 ghost use Rattle.sql_exec.specs.Bodies.{CanWrite, ChangesEnd, InsertsOne, PlanEnds, Works};
 ghost use Rattle.sql_exec.specs.Fits.{IsNamed};
-ghost use Rattle.sql_exec.specs.Means.{HasGiver, IsOwnOrBy, Stops};
+ghost use Rattle.sql_exec.specs.Means.{HasGiver, IsNotSpentReply, IsOwnOrBy, Stops};
 ghost use Rattle.sql_exec.specs.Plays.{OnTable};
-ghost use Rattle.sql_exec.specs.Sends.{PlanSends};
+ghost use Rattle.sql_exec.specs.Sends.{SendsOnly};
 
 use crate::act::Changes;
 use crate::settle::settle;
@@ -59,8 +59,7 @@ fn insert_all<R: RowCalls>(
     ensures plain { OnTable (R.defs rows.old) p.now.table
         (ChangesEnd (def_at (R.defs rows.old) p.now.table) (Insert p.now) result)
         (R.calls rows.old) (R.calls rows.new) }
-    ensures sent { PlanSends (R.defs rows.old) p.now.table (Insert p.now) (R.calls rows.old)
-        (R.calls rows.new) }
+    ensures sent { SendsOnly p.now.rows [] (R.calls rows.old) (R.calls rows.new) }
 {
     let list = p.rows.as_slice();
     for row in list {
@@ -87,11 +86,11 @@ pub(crate) fn insert<R: RowCalls>(
     ensures runs { OnOk result (IsTrue (is_running (R.calls rows.new))) }
     ensures end { IfErr result (Stops (R.calls rows.new)) }
     ensures lack { IfOk result (HasGiver (R.calls rows.old) (R.calls rows.new)) }
+    ensures spent { IfOk result IsNotSpentReply }
     ensures plain { OnTable (R.defs rows.old) p.now.table
         (PlanEnds (def_at (R.defs rows.old) p.now.table) (Insert p.now) result)
         (R.calls rows.old) (R.calls rows.new) }
-    ensures sent { PlanSends (R.defs rows.old) p.now.table (Insert p.now) (R.calls rows.old)
-        (R.calls rows.new) }
+    ensures sent { SendsOnly p.now.rows [] (R.calls rows.old) (R.calls rows.new) }
 {
     let mark = rows.mark()?;
     let changes = insert_all(alloc, rows, p, range);

@@ -4,6 +4,7 @@
 
 mod act;
 mod change;
+mod falling;
 mod insert;
 mod laws;
 mod plan;
@@ -11,6 +12,7 @@ mod select;
 mod settle;
 mod totals;
 mod values;
+mod window;
 
-pub use causes::OutOfMemory;
+pub use base_types::OutOfMemory;
 pub use plan::run_plan;

@@ -1,5 +1,5 @@
 // A statement of any kind.
-ghost use Rattle.std.specs.Prelude.{◌≡◌, IfErr, IfOk, IsTrue, OnOk, Some};
+ghost use Rattle.std.specs.Prelude.{◌≡◌, IfErr, IfOk, IsTrue, None, OnOk, Some};
 ghost use Rattle.sql_parse.specs.declared.statement.Statement.{Statement};
 ghost use Rattle.sql_check.specs.Columns.{def_at};
 ghost use Rattle.sql_check.specs.Valued.{IsPlanOf};
@@ -8,7 +8,8 @@ ghost use Rattle.plain_model.specs.Calls.{is_running};
 ghost use Rattle.plain_model.specs.Runs.{Since};
 ghost use Rattle.sql_exec.specs.Bodies.{MayAs, PlanEnds, RepliesWithoutKeys};
 ghost use Rattle.sql_exec.specs.Fits.{FitsTables};
-ghost use Rattle.sql_exec.specs.Means.{HasGiver, IsChecked, LocksBy, Means, Stops, lock_of, mode_of};
+ghost use Rattle.sql_exec.specs.Means.{HasGiver, IsChecked, IsNotSpentReply, LocksBy, Means, Stops, lock_of, mode_of};
+ghost use Rattle.sql_exec.specs.Means.{IsOwn};
 ghost use Rattle.sql_exec.specs.Plays.{OnTable};
 ghost use Rattle.sql_exec.specs.Sends.{PlanSends, Sends};
 
@@ -81,6 +82,7 @@ fn run_locked<R: RowCalls>(
     ensures runs { OnOk result (IsTrue (is_running (R.calls rows.new))) }
     ensures end { IfErr result (Stops (R.calls rows.new)) }
     ensures lack { IfOk result (HasGiver (R.calls rows.old) (R.calls rows.new)) }
+    ensures spent { IfOk result IsNotSpentReply }
     ensures plain { OnTable (R.defs rows.old) name.table
         (PlanEnds (def_at (R.defs rows.old) name.table) plan.now result)
         (R.calls rows.old) (R.calls rows.new) }
@@ -114,11 +116,16 @@ pub fn run_plan<R: RowCalls>(alloc: Global, rows: &mut R, plan: &Plan) -> Result
         → Means (R.defs rows.old) statement (R.calls rows.old) result (R.calls rows.new) }
     // The lock is the first call and the only one of its kind; where the range is empty nothing is called.
     ensures lock { LocksBy (lock_of plan.now) (mode_of plan.now) (R.calls rows.old) (R.calls rows.new) }
-    // Which rows are put and taken away, refused ones too.
+    // Which rows are put and taken away, refused ones too: of an INSERT those that it lists, whatever the
+    // tables are.
     ensures sent { (statement : Statement) → IsPlanOf (R.defs rows.old) statement plan.now
         → Sends (R.defs rows.old) statement (R.calls rows.old) (R.calls rows.new) }
     // A resource that is said to be lacking is what a call gave.
     ensures lack { IfOk result (HasGiver (R.calls rows.old) (R.calls rows.new)) }
+    // A stop that something is spent is the error, and never the reply.
+    ensures spent { IfOk result IsNotSpentReply }
+    // A statement about no key calls nothing, so what comes of it is its own.
+    ensures own { lock_of plan.now ≡ None → IsOwn result }
     ensures end { IfErr result (Stops (R.calls rows.new)) }
     ensures runs { OnOk result (IsTrue (is_running (R.calls rows.new))) }
 {

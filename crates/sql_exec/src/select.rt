@@ -7,17 +7,17 @@ ghost use Rattle.row_types.specs.Schema.{keys_at};
 ghost use Rattle.sql_check.specs.Columns.{def_at};
 ghost use Rattle.sql_check.specs.declared.plan.Plan.TheVariants.{Select};
 ghost use Rattle.plain_model.specs.Calls.{is_running};
-ghost use Rattle.plain_model.specs.Meaning.{limited};
 ghost use Rattle.sql_exec.specs.Bodies.{CanRead, PlanEnds, Works};
 ghost use Rattle.sql_exec.specs.Fits.{NamesKept};
-ghost use Rattle.sql_exec.specs.Means.{IsNoLackReply, Stops};
+ghost use Rattle.sql_exec.specs.Means.{IsNoLackReply, IsNotSpentReply, Stops};
 ghost use Rattle.sql_exec.specs.Plays.{OnTable};
-ghost use Rattle.sql_exec.specs.Selects.{Found, shown_of};
+ghost use Rattle.sql_exec.specs.Selects.{Found, FoundInOrder, shown_of};
 ghost use Rattle.sql_exec.specs.Sends.{SendsNothing};
 
 use crate::OutOfMemory;
+use crate::falling::last_found;
 use crate::values::{in_columns, passes_all};
-use key_space::{Key, Range};
+use key_space::Range;
 use plain_model::{Reply, RowCalls, Stop};
 use row_types::{Items, Row};
 use sql_check::SelectPlan;
@@ -79,27 +79,45 @@ fn found_in<R: RowCalls>(
     loop {
         let piece = rows.chunk(p.table, rest)?;
         collect(alloc, p, wanted, piece.rows.as_slice(), &mut found)?;
-        if piece.upto == rest.hi {
+        let Some(more) = rest.behind(piece.upto) else {
             return Ok(found);
-        }
+        };
         if is_enough(wanted, found.as_slice().len()) {
             return Ok(found);
         }
-        rest.lo = Key {
-            number: piece.upto.number + 1,
-        };
+        rest = more;
     }
 }
 
-/// At most so many rows, from the first on.
-fn at_most(mut found: Vec<Row>, limit: Option<u64>) -> Vec<Row>
-    ensures { result.items ≡ limited limit found.items }
+/// What is shown of the rows of a range that pass, in the order that is asked for, at most `LIMIT` of them.
+fn shown_in<R: RowCalls>(
+    alloc: Global,
+    rows: &mut R,
+    p: &SelectPlan,
+    range: Range,
+) -> Result<Vec<Row>, Stop>
+    requires range { IsNotEmpty range }
+    requires can { CanRead (R.calls rows.old) p.now.table range.lo.number range.hi.number }
+    ensures schema { R.defs rows.new ≡ R.defs rows.old }
+    ensures works { Works (R.calls rows.old) (R.calls rows.new) }
+    ensures runs { OnOk result (IsTrue (is_running (R.calls rows.new))) }
+    ensures end { IfErr result (Stops (R.calls rows.new)) }
+    ensures plain { IfOk result (λ found. OnTable (R.defs rows.old) p.now.table
+        (FoundInOrder (keys_at (R.defs rows.old) p.now.table) range p.now found.items)
+        (R.calls rows.old) (R.calls rows.new)) }
+    ensures sent { SendsNothing (R.calls rows.old) (R.calls rows.new) }
 {
-    let Some(limit) = limit else {
-        return found;
-    };
-    found.truncate(limit as usize);
-    found
+    if !p.is_falling {
+        return found_in(alloc, rows, p, range, p.limit);
+    }
+    match p.limit {
+        Some(limit) => last_found(alloc, rows, p, range, limit),
+        None => {
+            let mut found = found_in(alloc, rows, p, range, None)?;
+            found.reverse();
+            Ok(found)
+        }
+    }
 }
 
 /// The reply to a SELECT whose lock is held.
@@ -120,13 +138,9 @@ pub(crate) fn select<R: RowCalls>(
         (PlanEnds (def_at (R.defs rows.old) p.now.table) (Select p.now) result)
         (R.calls rows.old) (R.calls rows.new) }
     ensures own { IfOk result IsNoLackReply }
+    ensures spent { IfOk result IsNotSpentReply }
     ensures sent { SendsNothing (R.calls rows.old) (R.calls rows.new) }
 {
-    if !p.is_falling {
-        let found = found_in(alloc, rows, p, range, p.limit)?;
-        return Ok(Reply::Rows(Items::from_vec(found)));
-    }
-    let mut found = found_in(alloc, rows, p, range, None)?;
-    found.reverse();
-    Ok(Reply::Rows(Items::from_vec(at_most(found, p.limit))))
+    let found = shown_in(alloc, rows, p, range)?;
+    Ok(Reply::Rows(Items::from_vec(found)))
 }

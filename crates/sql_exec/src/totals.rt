@@ -10,14 +10,14 @@ ghost use Rattle.plain_model.specs.Calls.{is_running};
 ghost use Rattle.plain_model.specs.Meaning.{totals_reply};
 ghost use Rattle.sql_exec.specs.Bodies.{CanRead, PlanEnds, Works};
 ghost use Rattle.sql_exec.specs.Fits.{IsOfInts, NamesKept};
-ghost use Rattle.sql_exec.specs.Means.{IsNoLackReply, Stops};
+ghost use Rattle.sql_exec.specs.Means.{IsNoLackReply, IsNotSpentReply, Stops};
 ghost use Rattle.sql_exec.specs.Plays.{OnTable};
 ghost use Rattle.sql_exec.specs.Selects.{part_of, sums_of, with_row_added, IsOver, GoesOver};
 ghost use Rattle.sql_exec.specs.Sends.{SendsNothing};
 
 use crate::OutOfMemory;
 use crate::values::passes_all;
-use key_space::{Key, Range};
+use key_space::Range;
 use plain_model::{Refusal, Reply, RowCalls, Stop};
 use row_types::{Items, Row, Value, int_at};
 use sql_check::{TotalPlan, TotalsPlan};
@@ -129,6 +129,7 @@ pub(crate) fn total<R: RowCalls>(
         (PlanEnds (def_at (R.defs rows.old) p.now.table) (Totals p.now) result)
         (R.calls rows.old) (R.calls rows.new) }
     ensures own { IfOk result IsNoLackReply }
+    ensures spent { IfOk result IsNotSpentReply }
     ensures sent { SendsNothing (R.calls rows.old) (R.calls rows.new) }
 {
     let mut sums = zeros(alloc, p.totals.as_slice())?;
@@ -138,11 +139,9 @@ pub(crate) fn total<R: RowCalls>(
         if !add_rows(p, piece.rows.as_slice(), &mut sums) {
             return Ok(Reply::Refused(Refusal::Range));
         }
-        if piece.upto == rest.hi {
+        let Some(more) = rest.behind(piece.upto) else {
             return Ok(totals_reply(alloc, &sums)?);
-        }
-        rest.lo = Key {
-            number: piece.upto.number + 1,
         };
+        rest = more;
     }
 }

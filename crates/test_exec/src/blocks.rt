@@ -1,6 +1,6 @@
 // Blocks over the keeper, with the replies that have to come, those of the plain model, and the rows after
 // each.
-use exec_keeper::{Keeper, calls_text, kept_text, plain, schema, tables_text, tried};
+use fake_keeper::{Keeper, calls_text, kept_text, plain, schema, tables_text, tried};
 use plain_model::Tables;
 use row_types::TryCopy;
 use std::alloc::Global;

@@ -1,5 +1,5 @@
 // Which calls statements make, and a large table in pieces.
-use exec_keeper::{Keeper, Kind, calls_text, schema, tried};
+use fake_keeper::{Keeper, Kind, calls_text, schema, tried};
 use std::alloc::Global;
 use std::test::Fail;
 
@@ -44,9 +44,19 @@ fn statements_read_what_they_need(rt: HostRuntime) -> Result<(), Fail> {
             "begin lock chunk chunk chunk chunk chunk commit",
         ),
         (
-            "SELECT id FROM kv ORDER BY id DESC LIMIT 2",
+            "SELECT id FROM kv WHERE id <= 4 ORDER BY id DESC LIMIT 1",
+            "4 / rows 1",
+            "begin lock chunk commit",
+        ),
+        (
+            "SELECT id FROM kv WHERE id <= 4 ORDER BY id DESC LIMIT 2",
             "4 / 3 / rows 2",
-            "begin lock chunk chunk chunk chunk chunk commit",
+            "begin lock chunk chunk chunk chunk commit",
+        ),
+        (
+            "SELECT id FROM kv ORDER BY id DESC LIMIT 0",
+            "rows 0",
+            "begin lock commit",
         ),
         (
             "SELECT n FROM kv WHERE id = 3",

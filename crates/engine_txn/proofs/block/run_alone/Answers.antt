@@ -13,7 +13,7 @@ returns-in_err-end-in-Ok-clause-runs g c = λ text read.
     let mid = g.B.RowCalls.calls c.run_statement.new.calls in
     let new = g.B.RowCalls.calls c.end.new.calls in
     let stop = c.in_err-end-in-Ok.field-0.0 in
-    let broken = alone_broken_end defs text c.args.statement begun mid c.requires.begun read c.run_statement.ensures.works stop new c.in-Ok.ensures.calls c.in-Ok.ensures.runs c.in_err-end-in-Ok.ensures.calls in
+    let broken = alone_broken_end defs text c.args.statement begun mid c.requires.begun read c.run_statement.ensures.works c.in-Ok.reply stop new c.in-Ok.ensures.calls c.in-Ok.ensures.runs c.in-Ok.ensures.means c.in-Ok.ensures.cause c.in_err-end-in-Ok.ensures.calls in
     let is : c.from_residual.result ≡ Err stop = search rules in
     subst (λ (r : Result Reply Stop). RunsBegun defs (Alone text) begun (λ reply. reply ∷ []) r new) (sym is) broken
 
@@ -23,7 +23,7 @@ returns-in_ok-end-in-Ok-clause-runs g c = λ text read.
     let begun = g.B.RowCalls.calls c.args.calls.now in
     let mid = g.B.RowCalls.calls c.run_statement.new.calls in
     let new = g.B.RowCalls.calls c.end.new.calls in
-    let answered = alone_answered defs text c.args.statement begun mid c.requires.begun read c.run_statement.ensures.works c.in-Ok.reply c.in_ok-end-in-Ok.field-0 new c.in-Ok.ensures.calls c.in-Ok.ensures.runs c.in-Ok.ensures.means c.in-Ok.ensures.lack c.in_ok-end-in-Ok.ensures.calls in
+    let answered = alone_answered defs text c.args.statement begun mid c.requires.begun read c.run_statement.ensures.works c.in-Ok.reply c.in_ok-end-in-Ok.field-0 new c.in-Ok.ensures.calls c.in-Ok.ensures.runs c.in-Ok.ensures.means c.in-Ok.ensures.cause c.in_ok-end-in-Ok.ensures.calls in
     subst (λ (r : Reply). Answered defs (Alone text) begun (r ∷ []) new) (sym c.reply.ensures) answered
 
 pub returns-in-Err-clause-runs : goal.returns-in-Err-clause-runs

@@ -46,7 +46,7 @@ returns-in-Ok-run_alone-clause-tries g c =
     let read = subst (ReadAs false c.args.text.now) c.in-Ok-Allowed.field-0-is c.in-Ok-Allowed.ensures.read in
     let begins = subst (λ b. Begins c.args.age old (Ok b) begun) c.in-Ok-Running.field-0-is c.in-Ok-Running.ensures.calls in
     let answered = subst (λ (ds : List TableDef). Answered ds block begun list new) c.begin.ensures.schema (c.in-Ok-run_alone.ensures.runs c.args.text.now read) in
-    begun_said defs block c.args.age c.in-Ok-Running.age old begun begins c.said-in-Ok-run_alone.result list new c.said-in-Ok-run_alone.ensures answered
+    begun_said defs block (c.in-Ok-Allowed.statement, read) c.args.age c.in-Ok-Running.age old begun begins c.said-in-Ok-run_alone.result list new c.said-in-Ok-run_alone.ensures answered
 
 pub returns-in-Err-run_alone-clause-tries : goal.returns-in-Err-run_alone-clause-tries
 returns-in-Err-run_alone-clause-tries g c =
@@ -60,13 +60,14 @@ returns-in-Err-run_alone-clause-tries g c =
     let read = subst (ReadAs false c.args.text.now) c.in-Ok-Allowed.field-0-is c.in-Ok-Allowed.ensures.read in
     let begins = subst (λ b. Begins c.args.age old (Ok b) begun) c.in-Ok-Running.field-0-is c.in-Ok-Running.ensures.calls in
     let broken = subst (λ (ds : List TableDef). Broken ds block begun stop mid) c.begin.ensures.schema (c.in-Err-run_alone.ensures.runs c.args.text.now read) in
-    begun_given_up defs block c.args.age c.in-Ok-Running.age old begun begins c.give_up.result stop mid new broken c.give_up.ensures.calls
+    begun_given_up defs block (c.in-Ok-Allowed.statement, read) c.args.age c.in-Ok-Running.age old begun begins c.give_up.result stop mid new broken c.give_up.ensures.calls
 
 pub returns-in-Err-begin-clause-tries : goal.returns-in-Err-begin-clause-tries
 returns-in-Err-begin-clause-tries g c =
     let old = g.B.RowCalls.calls c.args.calls.now in
     let new = g.B.RowCalls.calls c.begin.new.calls in
-    begin_failed _ c.args.age (Alone c.args.text.now) old c.in-Err-begin.stop c.failed.result new c.in-Err-begin.ensures.calls.1 c.failed.ensures c.requires.idle c.in-Err-begin.ensures.calls.0
+    let read = subst (ReadAs false c.args.text.now) c.in-Ok-Allowed.field-0-is c.in-Ok-Allowed.ensures.read in
+    begin_failed _ c.args.age (Alone c.args.text.now) old c.in-Err-begin.stop c.failed.result new (c.in-Ok-Allowed.statement, read) c.in-Err-begin.ensures.calls.1 c.failed.ensures c.requires.idle c.in-Err-begin.ensures.calls.0
 
 pub returns-in-Err-clause-tries : goal.returns-in-Err-clause-tries
 returns-in-Err-clause-tries g c =

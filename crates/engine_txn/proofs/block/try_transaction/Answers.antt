@@ -34,7 +34,7 @@ returns-in-Ok-run_begun-clause-tries g c =
     let list = c.run_begun.new.replies.items in
     let begins = subst (λ b. Begins c.args.age old (Ok b) begun) c.in-Ok-Running.field-0-is c.in-Ok-Running.ensures.calls in
     let answered = subst (λ (ds : List TableDef). Answered ds block begun list new) c.begin.ensures.schema c.in-Ok-run_begun.ensures.runs in
-    begun_said defs block c.args.age c.in-Ok-Running.age old begun begins (Said c.run_begun.new.replies) list new refl answered
+    begun_said defs block tt c.args.age c.in-Ok-Running.age old begun begins (Said c.run_begun.new.replies) list new refl answered
 
 pub returns-in-Err-run_begun-clause-tries : goal.returns-in-Err-run_begun-clause-tries
 returns-in-Err-run_begun-clause-tries g c =
@@ -47,10 +47,10 @@ returns-in-Err-run_begun-clause-tries g c =
     let stop = c.in-Err-run_begun.stop in
     let begins = subst (λ b. Begins c.args.age old (Ok b) begun) c.in-Ok-Running.field-0-is c.in-Ok-Running.ensures.calls in
     let broken = subst (λ (ds : List TableDef). Broken ds block begun stop mid) c.begin.ensures.schema c.in-Err-run_begun.ensures.runs in
-    begun_given_up defs block c.args.age c.in-Ok-Running.age old begun begins c.give_up.result stop mid new broken c.give_up.ensures.calls
+    begun_given_up defs block tt c.args.age c.in-Ok-Running.age old begun begins c.give_up.result stop mid new broken c.give_up.ensures.calls
 
 pub returns-in-Err-clause-tries : goal.returns-in-Err-clause-tries
 returns-in-Err-clause-tries g c =
     let old = g.B.RowCalls.calls c.args.calls.now in
     let new = g.B.RowCalls.calls c.begin.new.calls in
-    begin_failed _ c.args.age (Behind c.args.t.now) old c.in-Err.stop c.failed.result new c.in-Err.ensures.calls.1 c.failed.ensures c.requires.idle c.in-Err.ensures.calls.0
+    begin_failed _ c.args.age (Behind c.args.t.now) old c.in-Err.stop c.failed.result new tt c.in-Err.ensures.calls.1 c.failed.ensures c.requires.idle c.in-Err.ensures.calls.0

@@ -11,4 +11,4 @@ pub returns-in-Refused-clause-works : goal.returns-in-Refused-clause-works
 returns-in-Refused-clause-works g c = here
 
 pub returns-in-Allowed-clause-text : goal.returns-in-Allowed-clause-text
-returns-in-Allowed-clause-text g c = text_allowed _ _ c.in-Allowed.statement _ _ _ (subst (ReadAs true c.args.text.now) c.in-Allowed.is c.in_ok-statement.ensures.read) c.run_statement.ensures.calls c.run_statement.ensures.means
+returns-in-Allowed-clause-text g c = text_allowed _ _ c.in-Allowed.statement _ _ _ (subst (ReadAs true c.args.text.now) c.in-Allowed.is c.in_ok-statement.ensures.read) c.run_statement.ensures.calls c.run_statement.ensures.means c.run_statement.ensures.cause c.run_statement.ensures.end

@@ -1,8 +1,10 @@
 use Rattle.std.proofs.Common.{◌≡◌, None, Err, inl, sym, subst, ◌∙◌, rules}
 use Rattle.sql_check.specs.Misfits.{misfit}
 use Rattle.sql_check.specs.Plans.{plan_of, plan_unless, IsUnlessMemory}
+use Rattle.sql_exec.specs.Means.{lock_of, mode_of}
 use Rattle.engine_txn.specs.Transactions.{here}
 use Rattle.engine_txn.proofs.CallLists.{works_by}
+use Rattle.engine_txn.proofs.Sources.{has_cause, stops_since}
 use Rattle.engine_txn.proofs.Tables.{schema_now, unfit_means}
 use Rattle.engine_txn.proofs.Texts.{fault_given, runs_fitting, runs_or, runs_unfit}
 use Rattle.engine_txn.proofs.statement.run_statement.Goals as goal
@@ -15,6 +17,16 @@ returns-in-Ok-clause-calls g c =
     let is : (misfit defs c.args.statement ≡ None) × (c.in-Ok.plan ≡ plan_of defs c.args.statement) = search rules in
     runs_or c.run_plan.result defs c.args.statement old new
     (runs_fitting defs c.args.statement c.in-Ok.plan old new is c.run_plan.ensures.lock (c.run_plan.ensures.sent c.args.statement (search rules)))
+
+pub returns-in-Ok-clause-cause : goal.returns-in-Ok-clause-cause
+returns-in-Ok-clause-cause g c =
+    let plan = c.in-Ok.plan in
+    has_cause (mode_of plan) _ _ (lock_of plan) c.requires.running c.run_plan.ensures.lock c.run_plan.result c.run_plan.ensures.lack c.run_plan.ensures.spent c.run_plan.ensures.own
+
+pub returns-in-Ok-clause-end : goal.returns-in-Ok-clause-end
+returns-in-Ok-clause-end g c =
+    let plan = c.in-Ok.plan in
+    stops_since (mode_of plan) _ _ (lock_of plan) c.run_plan.result c.run_plan.ensures.own c.run_plan.ensures.lock c.run_plan.ensures.end
 
 pub returns-in-Ok-clause-works : goal.returns-in-Ok-clause-works
 returns-in-Ok-clause-works g c = works_by _ _ _ _ c.run_plan.ensures.lock

@@ -1,5 +1,5 @@
 use Rattle.std.proofs.Common.{◌≢◌, sym, ◌∙◌, ap}
-use Rattle.causes.specs.Causes.{one_more}
+use Rattle.base_types.specs.Causes.{one_more}
 use Rattle.disk_core.specs.declared.store.FileName.{FileName}
 use Rattle.lane_format.specs.Writer.{even_file, stage_of}
 use Rattle.lane_format.specs.declared.writer.Stage.TheVariants.{Failed}

@@ -7,8 +7,8 @@ use Rattle.plain_model.specs.Runs.{Since, here, stopped}
 use Rattle.plain_model.proofs.CallLaws.{since_joined}
 use Rattle.sql_exec.specs.Bodies.{ChangesEnd}
 use Rattle.sql_exec.specs.Plays.{OnTable}
-use Rattle.sql_exec.specs.Sends.{PlanSends}
-use Rattle.sql_exec.proofs.Settling.{no_mark, plan_ends, plan_sent, settled_since}
+use Rattle.sql_exec.specs.Sends.{ChangeSends}
+use Rattle.sql_exec.proofs.Settling.{change_sent, no_mark, plan_ends, settled_since}
 use Rattle.sql_exec.proofs.Working.{mark_works, works_since}
 use Rattle.sql_exec.proofs.change.change.Goals as goal
 
@@ -54,6 +54,6 @@ returns-clause-sent g c =
     let defs = g.R.RowCalls.defs c.args.rows.now in
     let n = c.args.table in
     let mid = calls c.change_all-changes.new.rows in
-    let body = subst (λ (from : List Call). PlanSends defs n c.args.plan.now from mid) c.in_ok-mark.ensures.told
-    (subst (λ (ds : List TableDef). PlanSends ds n c.args.plan.now (calls c.mark.new.self) mid) c.in_ok-mark.ensures.schema c.change_all-changes.ensures.sent) in
-    plan_sent defs n c.args.plan.now _ c.change_all-changes.result (calls c.args.rows.now) mid c.settle.result (calls c.settle.new.rows) c.settle.ensures.calls body
+    let body = subst (λ (from : List Call). ChangeSends defs n c.args.plan.now from mid) c.in_ok-mark.ensures.told
+    (subst (λ (ds : List TableDef). ChangeSends ds n c.args.plan.now (calls c.mark.new.self) mid) c.in_ok-mark.ensures.schema c.change_all-changes.ensures.sent) in
+    change_sent defs n c.args.plan.now _ c.change_all-changes.result (calls c.args.rows.now) mid c.settle.result (calls c.settle.new.rows) c.settle.ensures.calls body

@@ -1,7 +1,6 @@
 use Rattle.std.proofs.Common.{rules, arith, ◌≡◌, ◌∙◌, ◌+◌, ◌≤◌, List, Option, Some, None, Result, Ok, Err, true, refl, sym, subst}
 use Rattle.std.specs.Prelude.{IfSome}
 use Rattle.std.specs.List.{flat_map}
-use Rattle.std.proofs.lemmas.Bool.{eqb-true, eqb-false}
 use Rattle.row_types.specs.declared.definition.TableDef.{TableDef}
 use Rattle.row_types.specs.Schema.{keys_at}
 use Rattle.row_types.specs.Tables.{Tables}
@@ -11,14 +10,14 @@ use Rattle.plain_model.specs.CallPlays.{tables_of}
 use Rattle.plain_model.specs.Meaning.{table_at}
 use Rattle.sql_exec.specs.declared.act.Changes.{Changes}
 use Rattle.sql_exec.specs.declared.act.Passed.{Passed}
-use Rattle.sql_exec.specs.Acts.{act_of, rows_in, some_refused}
+use Rattle.sql_exec.specs.Acts.{act_of, put_by, rows_in, some_refused, taken_by}
 use Rattle.sql_exec.specs.Bodies.{ActedSoFar, ChangesEnd, here}
-use Rattle.sql_exec.specs.Pieces.{PieceEnds, PieceSends}
+use Rattle.sql_exec.specs.Pieces.{PieceEnds, PieceSends, SendsAll}
 use Rattle.sql_exec.specs.Plays.{OnTable, PlaysFrom}
 use Rattle.sql_exec.specs.Sends.{SendsOnly}
 use Rattle.sql_exec.proofs.Acting.{puts, takes}
 use Rattle.sql_exec.proofs.OneTable.{stays}
-use Rattle.sql_exec.proofs.PieceLaws.{less_more, none_sent, none_so_far}
+use Rattle.sql_exec.proofs.PieceLaws.{behind_is, none_sent, none_so_far}
 use Rattle.sql_exec.proofs.Ranging.{StopEnds, run_more, run_part_sent, run_refused, run_sent, run_stops}
 use Rattle.sql_exec.proofs.Wholes.{all_made, all_out, all_sent, all_stops, whole_sent}
 use Rattle.sql_exec.proofs.Working.{works_on, works_since}
@@ -147,11 +146,11 @@ returns-in_default-clause-sent g c =
     all_sent defs n plan of range c.requires.kept start new all
     (subst (λ hi. (first : Tables) → PlaysFrom defs first new → SendsOnly (flat_map (puts marks act) (rows_in marks range.lo.number (hi + 1) (table_at (tables_of first start) n).rows)) (flat_map (takes marks act) (rows_in marks range.lo.number (hi + 1) (table_at (tables_of first start) n).rows)) start new) inv.high part)
 
-pub returns-then-eq-clause-works : goal.returns-then-eq-clause-works
-returns-then-eq-clause-works g c = works_on (g.R.RowCalls.calls c.args.rows.now) (g.R.RowCalls.calls c.loop-passed.rows) (g.R.RowCalls.calls c.act_piece.new.rows) c.loop-passed.invariant.works c.act_piece.ensures.works
+pub returns-in_default-behind-clause-works : goal.returns-in_default-behind-clause-works
+returns-in_default-behind-clause-works g c = works_on (g.R.RowCalls.calls c.args.rows.now) (g.R.RowCalls.calls c.loop-passed.rows) (g.R.RowCalls.calls c.act_piece.new.rows) c.loop-passed.invariant.works c.act_piece.ensures.works
 
-pub returns-then-eq-clause-plain : goal.returns-then-eq-clause-plain
-returns-then-eq-clause-plain g c =
+pub returns-in_default-behind-clause-plain : goal.returns-in_default-behind-clause-plain
+returns-in_default-behind-clause-plain g c =
     let calls = g.R.RowCalls.calls in
     let defs = g.R.RowCalls.defs c.args.rows.now in
     let n = c.args.table in
@@ -176,11 +175,11 @@ returns-then-eq-clause-plain g c =
     let total = c.saturating_add-count.result in
     let more = run_more defs n plan of range.lo.number rest.lo.number rest.hi.number c.loop-passed.count start old new inv.low earlier since rest passed total refl up c.saturating_add-count.ensures inv.plain plain in
     let sends = run_sent defs n plan of range.lo.number rest.lo.number rest.hi.number c.loop-passed.count start old new inv.low earlier since rest passed refl up inv.plain inv.sent sent in
-    let last : passed.upto.number ≡ range.hi.number = eqb-true passed.upto.number rest.hi.number (sym c.eq.ensures ∙ c.if-eq.true) ∙ inv.high in
+    let last : passed.upto.number ≡ range.hi.number = c.behind.ensures.none c.in_default-behind.is ∙ inv.high in
     all_made defs n plan of range c.requires.kept start new all total (subst (λ hi. OnTable defs n (ActedSoFar marks range.lo.number (hi + 1) act total) start new) last more)
 
-pub returns-then-eq-clause-sent : goal.returns-then-eq-clause-sent
-returns-then-eq-clause-sent g c =
+pub returns-in_default-behind-clause-sent : goal.returns-in_default-behind-clause-sent
+returns-in_default-behind-clause-sent g c =
     let calls = g.R.RowCalls.calls in
     let defs = g.R.RowCalls.defs c.args.rows.now in
     let n = c.args.table in
@@ -205,7 +204,7 @@ returns-then-eq-clause-sent g c =
     let total = c.saturating_add-count.result in
     let more = run_more defs n plan of range.lo.number rest.lo.number rest.hi.number c.loop-passed.count start old new inv.low earlier since rest passed total refl up c.saturating_add-count.ensures inv.plain plain in
     let sends = run_sent defs n plan of range.lo.number rest.lo.number rest.hi.number c.loop-passed.count start old new inv.low earlier since rest passed refl up inv.plain inv.sent sent in
-    let last : passed.upto.number ≡ range.hi.number = eqb-true passed.upto.number rest.hi.number (sym c.eq.ensures ∙ c.if-eq.true) ∙ inv.high in
+    let last : passed.upto.number ≡ range.hi.number = c.behind.ensures.none c.in_default-behind.is ∙ inv.high in
     all_sent defs n plan of range c.requires.kept start new all
     (λ first plays. let rows = (table_at (tables_of first start) n).rows in subst (λ hi. SendsOnly (flat_map (puts marks act) (rows_in marks range.lo.number (hi + 1) rows)) (flat_map (takes marks act) (rows_in marks range.lo.number (hi + 1) rows)) start new) last
     (whole_sent (flat_map (puts marks act) (rows_in marks range.lo.number (passed.upto.number + 1) rows)) (flat_map (takes marks act) (rows_in marks range.lo.number (passed.upto.number + 1) rows)) start new (sends first plays)))
@@ -236,13 +235,16 @@ loop-passed-preserved g c =
     let total = c.saturating_add-count.result in
     let more = run_more defs n plan of range.lo.number rest.lo.number rest.hi.number c.loop-passed.count start old new inv.low earlier since rest passed total refl up c.saturating_add-count.ensures inv.plain plain in
     let sends = run_sent defs n plan of range.lo.number rest.lo.number rest.hi.number c.loop-passed.count start old new inv.low earlier since rest passed refl up inv.plain inv.sent sent in
-    let can = c.in_ok-passed.ensures.can in record {
+    let can = c.in_ok-passed.ensures.can in
+    let behind = c.in-Some-behind.more in
+    let is = behind_is rest behind passed.upto.number (sym c.behind.ensures.value ∙ c.in-Some-behind.is) in
+    record {
       schema = c.in_ok-passed.ensures.schema ∙ inv.schema;
       works = works_on start old new inv.works c.act_piece.ensures.works;
-      can = (can.0, record { table_is = can.1.table_is; locked = λ key low high. can.1.locked key (omega (arith, low, up)) high });
-      low = omega (arith, inv.low, up);
-      some = less_more passed.upto.number rest.hi.number to (eqb-false passed.upto.number rest.hi.number (sym c.eq.ensures ∙ c.if-eq.false));
-      high = inv.high;
-      plain = more;
-      sent = sends;
+      can = (can.0, record { table_is = can.1.table_is; locked = λ key low high. can.1.locked key (omega (arith, low, up, is.0)) (omega (arith, high, is.1)) });
+      low = omega (arith, inv.low, up, is.0);
+      some = omega (arith, is.0, is.1, is.2);
+      high = is.1 ∙ inv.high;
+      plain = subst (λ mid. OnTable defs n (ActedSoFar marks range.lo.number mid act total) start new) (sym is.0) more;
+      sent = subst (λ mid. (first : Tables) → PlaysFrom defs first new → SendsAll (flat_map (λ row. put_by (act row)) (rows_in marks range.lo.number mid (table_at (tables_of first start) n).rows)) (flat_map (λ row. taken_by marks (act row) row) (rows_in marks range.lo.number mid (table_at (tables_of first start) n).rows)) start new) (sym is.0) sends;
     }

@@ -1,4 +1,4 @@
-use Rattle.std.proofs.Common.{rules, ◌≡◌, ◌∙◌, sym, subst, refl, ap, List, Err}
+use Rattle.std.proofs.Common.{rules, ◌≡◌, ◌∙◌, sym, subst, refl, ap, List, [], Err}
 use Rattle.row_types.specs.declared.definition.TableDef.{TableDef}
 use Rattle.sql_check.specs.Columns.{def_at}
 use Rattle.sql_check.specs.declared.plan.Plan.TheVariants.{Insert}
@@ -8,8 +8,8 @@ use Rattle.plain_model.specs.Runs.{Since, here, stopped}
 use Rattle.plain_model.proofs.CallLaws.{since_joined}
 use Rattle.sql_exec.specs.Bodies.{ChangesEnd}
 use Rattle.sql_exec.specs.Plays.{OnTable}
-use Rattle.sql_exec.specs.Sends.{PlanSends}
-use Rattle.sql_exec.proofs.Settling.{no_mark, plan_ends, plan_sent, settled_since}
+use Rattle.sql_exec.specs.Sends.{SendsOnly}
+use Rattle.sql_exec.proofs.Settling.{no_mark, plan_ends, settled_only, settled_since}
 use Rattle.sql_exec.proofs.Working.{mark_works, works_since}
 use Rattle.sql_exec.proofs.insert.insert.Goals as goal
 
@@ -52,9 +52,6 @@ returns-clause-plain g c =
 pub returns-clause-sent : goal.returns-clause-sent
 returns-clause-sent g c =
     let calls = g.R.RowCalls.calls in
-    let defs = g.R.RowCalls.defs c.args.rows.now in
-    let n = c.args.p.now.table in
     let mid = calls c.insert_all-changes.new.rows in
-    let body = subst (λ (from : List Call). PlanSends defs n (Insert c.args.p.now) from mid) c.in_ok-mark.ensures.told
-    (subst (λ (ds : List TableDef). PlanSends ds n (Insert c.args.p.now) (calls c.mark.new.self) mid) c.in_ok-mark.ensures.schema c.insert_all-changes.ensures.sent) in
-    plan_sent defs n (Insert c.args.p.now) _ c.insert_all-changes.result (calls c.args.rows.now) mid c.settle.result (calls c.settle.new.rows) c.settle.ensures.calls body
+    let body = subst (λ (from : List Call). SendsOnly c.args.p.now.rows [] from mid) c.in_ok-mark.ensures.told c.insert_all-changes.ensures.sent in
+    settled_only c.args.p.now.rows [] _ c.insert_all-changes.result (calls c.args.rows.now) mid c.settle.result (calls c.settle.new.rows) c.settle.ensures.calls body

@@ -1,5 +1,4 @@
 use Rattle.std.proofs.Common.{rules, arith, ◌≡◌, ◌∙◌, ◌+◌, ◌∷◌, ◌++◌, length, refl, sym, ap, subst}
-use Rattle.std.proofs.lemmas.Bool.{eqb-true, eqb-false}
 use Rattle.row_types.specs.Schema.{keys_at}
 use Rattle.key_space.specs.Plays.{Rows, Part}
 use Rattle.plain_model.specs.Calls.{Did}
@@ -10,7 +9,7 @@ use Rattle.sql_exec.specs.Bodies.{here}
 use Rattle.sql_exec.specs.Plays.{OnTable}
 use Rattle.sql_exec.specs.Selects.{shown_of}
 use Rattle.sql_exec.proofs.OneTable.{stays}
-use Rattle.sql_exec.proofs.PieceLaws.{less_more, none_from}
+use Rattle.sql_exec.proofs.PieceLaws.{behind_is, none_from}
 use Rattle.sql_exec.proofs.Reading.{enough_found, on_ordered, read_can, read_nothing, read_on, read_works, stopped_works}
 use Rattle.sql_exec.proofs.Showing.{enough, shown_none}
 use Rattle.sql_exec.proofs.Working.{works_since}
@@ -46,13 +45,13 @@ returns-in_err-collect-clause-works g c =
     let calls = g.R.RowCalls.calls in
     read_works c.args.p.now.table c.loop-found.rest.lo.number c.in_ok-piece.piece.upto.number c.in_ok-piece.piece.rows (calls c.args.rows.now) (calls c.loop-found.rows) (calls c.chunk.new.self) c.in_ok-piece.ensures.told c.loop-found.invariant.works
 
-pub returns-then-eq-clause-works : goal.returns-then-eq-clause-works
-returns-then-eq-clause-works g c =
+pub returns-in_default-clause-works : goal.returns-in_default-clause-works
+returns-in_default-clause-works g c =
     let calls = g.R.RowCalls.calls in
     read_works c.args.p.now.table c.loop-found.rest.lo.number c.in_ok-piece.piece.upto.number c.in_ok-piece.piece.rows (calls c.args.rows.now) (calls c.loop-found.rows) (calls c.chunk.new.self) c.in_ok-piece.ensures.told c.loop-found.invariant.works
 
-pub returns-then-eq-clause-plain : goal.returns-then-eq-clause-plain
-returns-then-eq-clause-plain g c =
+pub returns-in_default-clause-plain : goal.returns-in_default-clause-plain
+returns-in_default-clause-plain g c =
     let calls = g.R.RowCalls.calls in
     let defs = g.R.RowCalls.defs c.args.rows.now in
     let p = c.args.p.now in
@@ -74,7 +73,7 @@ returns-then-eq-clause-plain g c =
     let more : OnTable defs n (λ r s. (found ≡ shown_of p wanted (rows_in marks range.lo.number (upto + 1) r)) × (s ≡ r)) start new =
     read_on n rest.lo.number upto list start old new told defs range.lo.number inv.low c.in_ok-piece.ensures.low earlier (λ r. c.loop-found.found.items ≡ shown_of p wanted (rows_in marks range.lo.number rest.lo.number r)) (λ r. found ≡ shown_of p wanted (rows_in marks range.lo.number (upto + 1) r))
     (λ r order split e. c.in_ok-collect.ensures (rows_in marks range.lo.number rest.lo.number r) e ∙ ap (shown_of p wanted) (ap (λ (l : Rows). rows_in marks range.lo.number rest.lo.number r ++ l) c.as_slice.ensures ∙ sym split)) inv.plain in
-    let last : upto ≡ range.hi.number = eqb-true upto rest.hi.number (sym c.eq.ensures ∙ c.if-eq.true) ∙ inv.high in
+    let last : upto ≡ range.hi.number = c.behind.ensures.none c.in_default.is ∙ inv.high in
     subst (λ hi. OnTable defs n (λ r s. (found ≡ shown_of p wanted (rows_in marks range.lo.number (hi + 1) r)) × (s ≡ r)) start new) last more
 
 pub returns-then-is_enough-clause-works : goal.returns-then-is_enough-clause-works
@@ -132,13 +131,15 @@ loop-found-preserved g c =
     let more : OnTable defs n (λ r s. (found ≡ shown_of p wanted (rows_in marks range.lo.number (upto + 1) r)) × (s ≡ r)) start new =
     read_on n rest.lo.number upto list start old new told defs range.lo.number inv.low c.in_ok-piece.ensures.low earlier (λ r. c.loop-found.found.items ≡ shown_of p wanted (rows_in marks range.lo.number rest.lo.number r)) (λ r. found ≡ shown_of p wanted (rows_in marks range.lo.number (upto + 1) r))
     (λ r order split e. c.in_ok-collect.ensures (rows_in marks range.lo.number rest.lo.number r) e ∙ ap (shown_of p wanted) (ap (λ (l : Rows). rows_in marks range.lo.number rest.lo.number r ++ l) c.as_slice.ensures ∙ sym split)) inv.plain in
+    let behind = c.in-Some.more in
+    let is = behind_is rest behind upto (sym c.behind.ensures.value ∙ c.in-Some.is) in
     record {
       schema = c.in_ok-piece.ensures.schema ∙ inv.schema;
       works = read_works n rest.lo.number upto list start old new told inv.works;
-      can = read_can n rest.lo.number upto list start old new told rest.lo.number rest.hi.number (upto + 1) (omega (arith, c.in_ok-piece.ensures.low)) inv.can;
-      low = omega (arith, inv.low, c.in_ok-piece.ensures.low);
-      some = less_more upto rest.hi.number c.in_ok-piece.ensures.high (eqb-false upto rest.hi.number (sym c.eq.ensures ∙ c.if-eq.false));
-      high = inv.high;
-      plain = more;
+      can = read_can n rest.lo.number upto list start old new told rest.lo.number rest.hi.number behind.lo.number behind.hi.number (omega (arith, c.in_ok-piece.ensures.low, is.0)) (omega (arith, is.1)) inv.can;
+      low = omega (arith, inv.low, c.in_ok-piece.ensures.low, is.0);
+      some = omega (arith, is.0, is.1, is.2);
+      high = is.1 ∙ inv.high;
+      plain = subst (λ mid. OnTable defs n (λ r s. (found ≡ shown_of p wanted (rows_in marks range.lo.number mid r)) × (s ≡ r)) start new) (sym is.0) more;
       sent = read_nothing n rest.lo.number upto list start old new told inv.sent;
     }

@@ -1,5 +1,4 @@
 use Rattle.std.proofs.Common.{rules, arith, ◌≡◌, ◌∙◌, ◌+◌, ◌∷◌, ◌++◌, ◌≤◌, ℤ, List, length, map, Ok, Err, refl, sym, ap, subst}
-use Rattle.std.proofs.lemmas.Bool.{eqb-true, eqb-false}
 use Rattle.std.proofs.lemmas.List.{length-map}
 use Rattle.row_types.specs.Schema.{keys_at}
 use Rattle.key_space.specs.Plays.{Rows, Part}
@@ -17,7 +16,7 @@ use Rattle.sql_exec.specs.Bodies.{PlanEnds, here}
 use Rattle.sql_exec.specs.Plays.{OnTable}
 use Rattle.sql_exec.specs.Selects.{GoesOver, sums_of}
 use Rattle.sql_exec.proofs.OneTable.{stays}
-use Rattle.sql_exec.proofs.PieceLaws.{less_more, none_from}
+use Rattle.sql_exec.proofs.PieceLaws.{behind_is, none_from}
 use Rattle.sql_exec.proofs.Reading.{err_ends, never_goes_over, read_can, read_nothing, read_on, read_works, reads_stop, stopped_works, totals_end}
 use Rattle.sql_exec.proofs.Summing.{written_back}
 use Rattle.sql_exec.proofs.Totalling.{zero_of, zeros_are}
@@ -95,13 +94,13 @@ returns-in_err-totals_reply-clause-works g c =
     let calls = g.R.RowCalls.calls in
     read_works c.args.p.now.table c.loop-sums.rest.lo.number c.in_ok-piece.piece.upto.number c.in_ok-piece.piece.rows (calls c.args.rows.now) (calls c.loop-sums.rows) (calls c.chunk.new.self) c.in_ok-piece.ensures.told c.loop-sums.invariant.works
 
-pub returns-then-eq-clause-works : goal.returns-then-eq-clause-works
-returns-then-eq-clause-works g c =
+pub returns-in_default-clause-works : goal.returns-in_default-clause-works
+returns-in_default-clause-works g c =
     let calls = g.R.RowCalls.calls in
     read_works c.args.p.now.table c.loop-sums.rest.lo.number c.in_ok-piece.piece.upto.number c.in_ok-piece.piece.rows (calls c.args.rows.now) (calls c.loop-sums.rows) (calls c.chunk.new.self) c.in_ok-piece.ensures.told c.loop-sums.invariant.works
 
-pub returns-then-eq-clause-plain : goal.returns-then-eq-clause-plain
-returns-then-eq-clause-plain g c =
+pub returns-in_default-clause-plain : goal.returns-in_default-clause-plain
+returns-in_default-clause-plain g c =
     let calls = g.R.RowCalls.calls in
     let defs = g.R.RowCalls.defs c.args.rows.now in
     let p = c.args.p.now in
@@ -124,7 +123,7 @@ returns-then-eq-clause-plain g c =
     let more : OnTable defs n (λ r s. (sums ≡ sums_of p (rows_in marks range.lo.number (upto + 1) r)) × (s ≡ r)) start new =
     read_on n rest.lo.number upto list start old new told defs range.lo.number inv.low up earlier (λ r. c.loop-sums.sums.items ≡ sums_of p (rows_in marks range.lo.number rest.lo.number r)) (λ r. sums ≡ sums_of p (rows_in marks range.lo.number (upto + 1) r))
     (λ r order split e. c.if-not-add_rows.ensures.added refl (rows_in marks range.lo.number rest.lo.number r) (c.deref_mut.ensures.value ∙ e) ∙ ap (sums_of p) (ap (λ (l : Rows). rows_in marks range.lo.number rest.lo.number r ++ l) c.as_slice-in-loop-sums.ensures ∙ sym split)) inv.plain in
-    let last : upto ≡ range.hi.number = eqb-true upto rest.hi.number (sym c.eq.ensures ∙ c.if-eq.true) ∙ inv.high in
+    let last : upto ≡ range.hi.number = c.behind.ensures.none c.in_default.is ∙ inv.high in
     let len : length sums ≡ length c.loop-sums.sums.items = c.add_rows.ensures.len ∙ ap length c.deref_mut.ensures.value in
     let room : length c.loop-sums.sums.items ≤ c.loop-sums.sums.len = search rules in
     let back = written_back c.loop-sums.sums.len sums c.loop-sums.sums.items len room in
@@ -158,14 +157,17 @@ loop-sums-preserved g c =
     let len : length sums ≡ length c.loop-sums.sums.items = c.add_rows.ensures.len ∙ ap length c.deref_mut.ensures.value in
     let room : length c.loop-sums.sums.items ≤ c.loop-sums.sums.len = search rules in
     let back = written_back c.loop-sums.sums.len sums c.loop-sums.sums.items len room in
+    let behind = c.in-Some.more in
+    let is = behind_is rest behind upto (sym c.behind.ensures.value ∙ c.in-Some.is) in
     record {
       schema = c.in_ok-piece.ensures.schema ∙ inv.schema;
       works = read_works n rest.lo.number upto list start old new told inv.works;
-      can = read_can n rest.lo.number upto list start old new told rest.lo.number rest.hi.number (upto + 1) (omega (arith, up)) inv.can;
-      low = omega (arith, inv.low, up);
-      some = less_more upto rest.hi.number to (eqb-false upto rest.hi.number (sym c.eq.ensures ∙ c.if-eq.false));
-      high = inv.high;
+      can = read_can n rest.lo.number upto list start old new told rest.lo.number rest.hi.number behind.lo.number behind.hi.number (omega (arith, up, is.0)) (omega (arith, is.1)) inv.can;
+      low = omega (arith, inv.low, up, is.0);
+      some = omega (arith, is.0, is.1, is.2);
+      high = is.1 ∙ inv.high;
       len = ap length back ∙ len ∙ inv.len;
-      plain = subst (λ (l : List ℤ). OnTable defs n (λ r s. (l ≡ sums_of p (rows_in marks range.lo.number (upto + 1) r)) × (s ≡ r)) start new) (sym back) more;
+      plain = subst (λ (l : List ℤ). OnTable defs n (λ r s. (l ≡ sums_of p (rows_in marks range.lo.number behind.lo.number r)) × (s ≡ r)) start new) (sym back)
+          (subst (λ mid. OnTable defs n (λ r s. (sums ≡ sums_of p (rows_in marks range.lo.number mid r)) × (s ≡ r)) start new) (sym is.0) more);
       sent = read_nothing n rest.lo.number upto list start old new told inv.sent;
     }

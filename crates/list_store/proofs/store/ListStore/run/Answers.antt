@@ -27,7 +27,7 @@ returns-in-OutOfMemory g c =
     let keeps = c.requires.1 in
     let past = c.history.ensures in
     let history : IsHistory (defs_of old) mid.calls = subst (λ (l : List TableDef). IsHistory l mid.calls) e.schema past.history in
-    let tries : Tries (defs_of old) None c.args.block.now old.keeper.calls c.try_block-tried.result mid.calls = record { began = e.began; commits = e.commits; said = e.said; causes = e.causes; calls = e.calls; stopped = e.stopped; died = e.died; ended = e.ended; kept = e.kept } in
+    let tries : Tries (defs_of old) None c.args.block.now old.keeper.calls c.try_block-tried.result mid.calls = record { began = e.began; goes = e.goes; commits = e.commits; said = e.said; causes = e.causes; calls = e.calls; stopped = e.stopped; died = e.died; ended = e.ended; kept = e.kept } in
     let comes = try_comes (defs_of old) c.args.block.now old.keeper.calls mid.calls c.try_block-tried.result history keeps.forced tries in
     let stays = subst (λ (t : Tried). Comes (defs_of old) c.args.block.now old.keeper.calls t mid.calls) c.in-OutOfMemory.is comes in
     unrun d old new refl e.schema past stays
@@ -42,7 +42,7 @@ returns-in-Ok g c =
     let keeps = c.requires.1 in
     let past = c.history.ensures in
     let history : IsHistory (defs_of old) mid.calls = subst (λ (l : List TableDef). IsHistory l mid.calls) e.schema past.history in
-    let tries : Tries (defs_of old) None c.args.block.now old.keeper.calls c.try_block-tried.result mid.calls = record { began = e.began; commits = e.commits; said = e.said; causes = e.causes; calls = e.calls; stopped = e.stopped; died = e.died; ended = e.ended; kept = e.kept } in
+    let tries : Tries (defs_of old) None c.args.block.now old.keeper.calls c.try_block-tried.result mid.calls = record { began = e.began; goes = e.goes; commits = e.commits; said = e.said; causes = e.causes; calls = e.calls; stopped = e.stopped; died = e.died; ended = e.ended; kept = e.kept } in
     let comes = try_comes (defs_of old) c.args.block.now old.keeper.calls mid.calls c.try_block-tried.result history keeps.forced tries in
     let replies = c.in-Said.replies.items in
     let said : SaidBy (defs_of old) c.args.block.now old.keeper.calls replies mid.calls = subst (λ (t : Tried). Comes (defs_of old) c.args.block.now old.keeper.calls t mid.calls) c.in-Said.is comes in
@@ -62,7 +62,7 @@ returns-in-Err g c =
     let keeps = c.requires.1 in
     let past = c.history.ensures in
     let history : IsHistory (defs_of old) mid.calls = subst (λ (l : List TableDef). IsHistory l mid.calls) e.schema past.history in
-    let tries : Tries (defs_of old) None c.args.block.now old.keeper.calls c.try_block-tried.result mid.calls = record { began = e.began; commits = e.commits; said = e.said; causes = e.causes; calls = e.calls; stopped = e.stopped; died = e.died; ended = e.ended; kept = e.kept } in
+    let tries : Tries (defs_of old) None c.args.block.now old.keeper.calls c.try_block-tried.result mid.calls = record { began = e.began; goes = e.goes; commits = e.commits; said = e.said; causes = e.causes; calls = e.calls; stopped = e.stopped; died = e.died; ended = e.ended; kept = e.kept } in
     let comes = try_comes (defs_of old) c.args.block.now old.keeper.calls mid.calls c.try_block-tried.result history keeps.forced tries in
     let replies = c.in-Said.replies.items in
     let said : SaidBy (defs_of old) c.args.block.now old.keeper.calls replies mid.calls = subst (λ (t : Tried). Comes (defs_of old) c.args.block.now old.keeper.calls t mid.calls) c.in-Said.is comes in

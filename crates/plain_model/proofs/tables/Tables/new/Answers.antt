@@ -6,15 +6,17 @@ use Rattle.plain_model.specs.Views.{paired}
 use Rattle.plain_model.proofs.Viewing.{paired_empty, empty_are_tables}
 use Rattle.plain_model.proofs.tables.Tables.new.Goals as goal
 
-pub returns : goal.returns
-returns c =
-    ap (paired c.args.schema) (c.in_ok-lists.ensures ∙ ap (map (λ def. [])) c.tables.ensures.value) ∙ paired_empty c.args.schema
+pub from_lists-requires-clause-len : goal.from_lists-requires-clause-len
+from_lists-requires-clause-len c =
+    let lists = c.in_ok-lists.ensures ∙ ap (map (λ def. [])) c.tables.ensures.value in
+    ap (λ (l : List Rows). length l) lists ∙ length-map c.args.schema (λ def. [])
 
-pub invariant_of-result : goal.invariant_of-result
-invariant_of-result c =
+pub from_lists-requires-clause-tables : goal.from_lists-requires-clause-tables
+from_lists-requires-clause-tables c =
     let lists = c.in_ok-lists.ensures ∙ ap (map (λ def. [])) c.tables.ensures.value in
     let same = ap (paired c.args.schema) lists ∙ paired_empty c.args.schema in
-    record {
-      len = ap (λ (l : List Rows). length l) lists ∙ length-map c.args.schema (λ def. []);
-      tables = subst (λ (ts : Tables). AreTables ts) (sym same) (empty_are_tables c.args.schema c.tables.ensures.schema);
-    }
+    subst (λ (ts : Tables). AreTables ts) (sym same) (empty_are_tables c.args.schema c.tables.ensures.schema)
+
+pub returns : goal.returns
+returns c =
+    c.from_lists.ensures ∙ ap (paired c.args.schema) (c.in_ok-lists.ensures ∙ ap (map (λ def. [])) c.tables.ensures.value) ∙ paired_empty c.args.schema
