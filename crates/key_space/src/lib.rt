@@ -11,5 +11,5 @@ pub use laws::{
     keys_keep_order, look_ups_follow_changes, plays_once, tables_stay_tables,
     verdict_names_the_least,
 };
-pub use lock::{Held, LockName, Mode, Verdict, answer_to};
+pub use lock::{Held, LockName, MAX_LOCKS, Mode, Verdict, answer_to};
 pub use range::Range;

@@ -2,7 +2,7 @@
 ghost use Rattle.std.specs.Prelude.{◌≡◌, ◌<◌, ◌≤◌, ◌^◌, length, min, All};
 ghost use Rattle.std.specs.List.{list_any};
 ghost use Rattle.std.specs.Option.{option_map_or};
-ghost use Rattle.key_space.specs.Locks.{IsOfKeys, covers_ask, conflicts, conflicts_older, in_the_way};
+ghost use Rattle.key_space.specs.Locks.{IsOfKeys, covers_ask, in_the_way};
 ghost use Rattle.key_space.specs.Locks.{least_owner, own_count, verdict_of};
 
 use crate::Range;
@@ -30,6 +30,37 @@ pub struct Held {
     pub mode: Mode,
 }
 
+impl Held {
+    ghost use Rattle.std.specs.Prelude.{◌≡◌};
+    ghost use Rattle.key_space.specs.Locks.{IsOfKeys, conflicts, covers_ask};
+
+    /// Whether its session has no need of a lock that it asks for: this one holds each key of it, in the
+    /// same mode or Exclusive.
+    pub fn covers(&self, ask: &Held) -> bool
+        requires mine { IsOfKeys self.now }
+        requires other { IsOfKeys ask.now }
+        ensures { result ≡ covers_ask ask.now self.now }
+    {
+        self.who == ask.who
+            && self.name.table == ask.name.table
+            && self.name.range.contains(&ask.name.range)
+            && (self.mode == Mode::Exclusive || ask.mode != Mode::Exclusive)
+    }
+
+    /// Whether it is in the way of a lock that another session asks for: the two share a key, and one is
+    /// Exclusive.
+    pub fn conflicts(&self, ask: &Held) -> bool
+        requires mine { IsOfKeys self.now }
+        requires other { IsOfKeys ask.now }
+        ensures { result ≡ conflicts ask.now self.now }
+    {
+        self.who != ask.who
+            && self.name.table == ask.name.table
+            && self.name.range.overlaps(&ask.name.range)
+            && (self.mode == Mode::Exclusive || ask.mode == Mode::Exclusive)
+    }
+}
+
 /// The answer to a request for a lock.
 #[derive(Clone, Copy, Debug, PartialEq, Eq)]
 pub enum Verdict {
@@ -44,7 +75,7 @@ pub enum Verdict {
 }
 
 /// The most locks that a transaction may hold.
-const LOCKS: usize = 1024;
+pub const MAX_LOCKS: usize = 1024;
 
 /// The answer to a request where these locks are held, by the first of these that applies: an own lock covers
 /// it; a lock of an older transaction is in its way; a lock of
@@ -65,35 +96,13 @@ pub fn answer_to(held: &[Held], ask: &Held) -> Verdict
         return Verdict::Wait { holder };
     }
     let own = own_count(held, ask);
-    if own < LOCKS {
+    if own < MAX_LOCKS {
         return Verdict::Granted;
     }
     Verdict::Full {
         held: own as u32,
-        limit: LOCKS as u32,
+        limit: MAX_LOCKS as u32,
     }
-}
-
-fn covers_ask(ask: &Held, h: &Held) -> bool
-    requires mine { IsOfKeys ask.now }
-    requires other { IsOfKeys h.now }
-    ensures { result ≡ covers_ask ask.now h.now }
-{
-    h.who == ask.who
-        && h.name.table == ask.name.table
-        && h.name.range.contains(&ask.name.range)
-        && (h.mode == Mode::Exclusive || ask.mode != Mode::Exclusive)
-}
-
-fn conflicts(ask: &Held, h: &Held) -> bool
-    requires mine { IsOfKeys ask.now }
-    requires other { IsOfKeys h.now }
-    ensures { result ≡ conflicts ask.now h.now }
-{
-    h.who != ask.who
-        && h.name.table == ask.name.table
-        && h.name.range.overlaps(&ask.name.range)
-        && (h.mode == Mode::Exclusive || ask.mode == Mode::Exclusive)
 }
 
 fn is_covered(held: &[Held], ask: &Held) -> bool
@@ -102,7 +111,7 @@ fn is_covered(held: &[Held], ask: &Held) -> bool
     ensures { result ≡ list_any (covers_ask ask.now) held.now }
 {
     for h in held {
-        if covers_ask(ask, h) {
+        if h.covers(ask) {
             return true;
         }
     }
@@ -117,7 +126,7 @@ fn least_owner(held: &[Held], ask: &Held, older: bool) -> Option<u16>
 {
     let mut least = None;
     for h in held {
-        if conflicts(ask, h) && (!older || h.age < ask.age) {
+        if h.conflicts(ask) && (!older || h.age < ask.age) {
             least = Some(least_of(least, h.who));
         }
     }
