@@ -1,4 +1,5 @@
 // Pages as they stood.
+use fields::xor_into;
 use std::marker::Model;
 
 /// A page as it stood when it had this stamp, seen with its bytes as their list.
@@ -19,7 +20,8 @@ impl Model for Image {
 }
 
 impl Image {
-    ghost use Rattle.std.specs.Prelude.{◌≡◌};
+    ghost use Rattle.std.specs.Prelude.{◌≡◌, length};
+    ghost use Rattle.fields.specs.Toggle.{byte_at, toggled};
     ghost use Rattle.xor_records.specs.Replay.{PageImage};
 
     /// The image of page number `page` of a table.
@@ -60,5 +62,13 @@ impl Image {
         ensures { result.now ≡ self.now.bytes }
     {
         self.bytes.as_slice()
+    }
+
+    /// Each of its bytes becomes its XOR with the byte of `by` at the same place.
+    pub fn toggle(&mut self, by: &[u8])
+        requires { length self.old.bytes ≡ length by.now }
+        ensures { self.new ≡ record self.old { bytes = toggled byte_at self.old.bytes by.now } }
+    {
+        xor_into(&mut self.bytes, by);
     }
 }
