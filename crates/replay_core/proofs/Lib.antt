@@ -1,0 +1,5 @@
+pub mod PageLaws
+pub mod EntryLaws
+pub mod DeltaLaws
+pub mod RestartLaws
+pub mod BatchLaws
