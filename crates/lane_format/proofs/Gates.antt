@@ -1,9 +1,10 @@
 -- What stands at a gate of a lane file: a batch, or an open gate without one.
-use Rattle.std.proofs.Common.{◌≡◌, ◌⊎◌, ⊎_elim, ℕ, ◌+◌, ◌<◌, List, [], ◌∷◌, ◌++◌, length, take, drop, refl, sym, ◌∙◌, ap, arith, length-append, take-append-drop}
-use Rattle.std.proofs.lemmas.List.{drop-drop}
+use Rattle.std.proofs.Common.{◌≡◌, ◌⊎◌, ⊎_elim, ℕ, ◌+◌, ◌<◌, List, [], ◌∷◌, ◌++◌, length, take, drop, slice_index, ◌≤◌, ◌^◌, refl, sym, ◌∙◌, ap, arith, length-append, take-append-drop}
+use Rattle.std.proofs.lemmas.List.{drop-drop, drop-take, take-take, take_at, drop_at, length-drop, length-take}
 use Rattle.std.proofs.lemmas.Nat.{from_le_bytes-to_le_bytes_4}
 use Rattle.std.specs.Int.{w32, from_le_bytes, to_le_bytes}
 use Rattle.lane_format.specs.Lane.{IsBody, IsOpen, batch_text}
+use Rattle.lane_format.specs.Batches.{HasBatch}
 use Rattle.lane_format.specs.LaneRead.{LacksBatch}
 
 pub length-batch_text : (body : List ℕ) → length (batch_text body) ≡ 5 + length body
@@ -47,9 +48,42 @@ batch_there rest body gate len is =
     ∙ ap (λ (l : List ℕ). to_le_bytes w32 n ++ l) (drop-drop 4 1 rest ∙ sym (take-append-drop n (drop 5 rest)) ∙ ap (λ (l : List ℕ). l ++ drop n (drop 5 rest)) (sym is) ∙ ap (λ (l : List ℕ). body ++ l) (drop-drop n 5 rest)) in
     open_first rest gate ∙ ap (λ (l : List ℕ). 1 ∷ l) split
 
--- the same at a place in a file
-pub batch_at : (bytes body : List ℕ) (gate : ℕ) → IsOpen (drop gate bytes) → take 4 (drop (gate + 1) bytes) ≡ to_le_bytes w32 (length body) → body ≡ take (length body) (drop (gate + 5) bytes) → drop gate bytes ≡ batch_text body ++ drop (gate + 5 + length body) bytes
-batch_at bytes body gate gate_open len is =
-    let place : gate + (5 + length body) ≡ gate + 5 + length body = omega arith in
-    batch_there (drop gate bytes) body gate_open (ap (take 4) (drop-drop 1 gate bytes) ∙ len) (is ∙ ap (take (length body)) (sym (drop-drop 5 gate bytes)))
-    ∙ ap (λ (l : List ℕ). batch_text body ++ l) (drop-drop (5 + length body) gate bytes ∙ ap (λ n. drop n bytes) place)
+-- an open gate, the length of a body and as many bytes
+pub has_batch : (rest : List ℕ) (len : ℕ) → IsOpen rest → 1 ≤ len → len < 2 ^ 32 → 5 + len ≤ length rest → to_le_bytes w32 len ≡ take 4 (drop 1 rest) → HasBatch len rest
+has_batch rest len gate some short inside said =
+    let body = take len (drop 5 rest) in
+    let size : length body ≡ len = omega (arith, inside, length-take len (drop 5 rest), length-drop 5 rest) in
+    record {
+      body = body;
+      behind = drop (5 + length body) rest;
+      fits = (omega (arith, size, some), omega (arith, size, short));
+      len_is = sym size;
+      text = batch_there rest body gate (sym said ∙ ap (to_le_bytes w32) (sym size)) (ap (λ k. take k (drop 5 rest)) (sym size));
+    }
+
+-- ---- the first five bytes
+
+pub front_open : (rest : List ℕ) → slice_index (take 5 rest) 0 ≡ slice_index rest 0
+front_open [] = refl
+front_open (b ∷ rest) = refl
+
+pub front_said : (rest : List ℕ) → take 4 (drop 1 (take 5 rest)) ≡ take 4 (drop 1 rest)
+front_said rest = ap (take 4) (drop-take 1 4 rest) ∙ take-take 4 4 (drop 1 rest) (omega arith)
+
+-- ---- a batch at a place in the file
+
+behind_five : (body behind : List ℕ) → drop 5 (batch_text body ++ behind) ≡ body ++ behind
+unfolding batch_text
+behind_five body behind = refl
+
+module _ (bytes : List ℕ) (gate len : ℕ) (has : HasBatch len (drop gate bytes)) where
+  pub body_there : take len (drop (gate + 5) bytes) ≡ has.body
+  body_there = ap (take len) (sym (drop-drop 5 gate bytes) ∙ ap (drop 5) has.text ∙ behind_five has.body has.behind) ∙ take_at has.body has.behind len (sym has.len_is)
+
+  pub behind_there : has.behind ≡ drop (gate + 5 + len) bytes
+  behind_there =
+      let place : gate + (5 + len) ≡ gate + 5 + len = omega arith in
+      sym (drop_at (batch_text has.body) has.behind (5 + len) (length-batch_text has.body ∙ ap (λ n. 5 + n) (sym has.len_is)))
+      ∙ ap (drop (5 + len)) (sym has.text)
+      ∙ drop-drop (5 + len) gate bytes
+      ∙ ap (λ n. drop n bytes) place

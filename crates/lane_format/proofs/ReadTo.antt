@@ -1,13 +1,13 @@
 -- One batch more is read, and what has been read is the whole file.
-use Rattle.std.proofs.Common.{◌≡◌, ℕ, ◌+◌, List, [], ◌∷◌, ◌++◌, length, drop, refl, sym, ◌∙◌, ap, arith, append_assoc, length-append}
+use Rattle.std.proofs.Common.{◌≡◌, ℕ, ◌+◌, List, [], ◌∷◌, ◌++◌, length, drop, refl, sym, ◌∙◌, ap, subst, arith, append_assoc, length-append}
 use Rattle.std.proofs.lemmas.List.{append-nil}
 use Rattle.std.proofs.lemmas.Grind.{flat_map-append}
 use Rattle.std.specs.List.{flat_map}
 use Rattle.lane_format.specs.Lane.{IsBody, batch_text}
 use Rattle.lane_format.specs.LaneRead.{placed}
-use Rattle.lane_format.specs.ReadingSteps.{ReadTo}
+use Rattle.lane_format.specs.Batches.{HasBatch, ReadTo, batch_at}
 use Rattle.lane_format.specs.declared.segment.Batch.{Batch}
-use Rattle.lane_format.proofs.Gates.{length-batch_text}
+use Rattle.lane_format.proofs.Gates.{behind_there, body_there, length-batch_text}
 use Rattle.lane_format.proofs.Lanes.{one_more_fits}
 
 pub batches-push : (bodies : List (List ℕ)) (body : List ℕ) → flat_map batch_text (bodies ++ body ∷ []) ≡ flat_map batch_text bodies ++ batch_text body
@@ -43,3 +43,15 @@ one_more_read bytes batches gate batch so_far fits is at =
       place = omega (arith, at, so_far.place, ap length (batches-push bodies body), length-append (flat_map batch_text bodies) (batch_text body), length-batch_text body);
       batches_are = ap (λ (l : List Batch). l ++ batch ∷ []) so_far.batches_are ∙ sym (placed-push 11 bodies body batch (omega (arith, at, so_far.place)) refl);
     }
+
+-- the batch at a gate is read
+pub next_read : (bytes : List ℕ) (batches : List Batch) (gate len : ℕ) → ReadTo bytes batches gate → HasBatch len (drop gate bytes) → ReadTo bytes (batches ++ batch_at bytes gate len ∷ []) (gate + 5 + len)
+next_read bytes batches gate len so_far has =
+    let batch = batch_at bytes gate len in
+    let body_is = body_there bytes gate len has in
+    let size : length batch.body ≡ len = ap length body_is ∙ sym has.len_is in
+    let fits : IsBody batch.body = subst IsBody (sym body_is) has.fits in
+    let behind : has.behind ≡ drop (gate + 5 + length batch.body) bytes = behind_there bytes gate len has ∙ ap (λ n. drop (gate + 5 + n) bytes) (sym size) in
+    let text : drop gate bytes ≡ batch_text batch.body ++ drop (gate + 5 + length batch.body) bytes =
+    has.text ∙ ap (λ (l : List ℕ). batch_text l ++ has.behind) (sym body_is) ∙ ap (λ (l : List ℕ). batch_text batch.body ++ l) behind in
+    subst (λ n. ReadTo bytes (batches ++ batch ∷ []) (gate + 5 + n)) size (one_more_read bytes batches gate batch so_far fits text refl)

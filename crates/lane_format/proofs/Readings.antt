@@ -3,11 +3,15 @@ use Rattle.std.proofs.Common.{◌≡◌, ◌≢◌, ◌⊎◌, inl, inr, ℕ, ze
 use Rattle.std.specs.List.{AllByRecursion, flat_map}
 use Rattle.std.specs.Int.{w16, w32, w64, from_le_bytes, to_le_bytes}
 use Rattle.std.proofs.lemmas.Bool.{cases_eq, cases_lt}
-use Rattle.std.proofs.lemmas.List.{take_at, drop_at, get_or-drop, get_or-take, get_or_past}
+use Rattle.std.proofs.lemmas.List.{take_at, drop_at, get_or-drop, get_or-take, get_or_past, append-nil}
+use Rattle.std.proofs.lemmas.Grind.{flat_map-append}
 use Rattle.std.proofs.lemmas.Nat.{from_le_bytes-to_le_bytes_2, from_le_bytes-to_le_bytes_8, le_bytes_4}
 use Rattle.lane_format.specs.Lane.{IsBody, IsLane, IsNotOpen, IsOpen, batch_text, header_text}
-use Rattle.lane_format.specs.LaneRead.{DamagedAt, HasBatches, HasHead, Holding, IsDamaged, IsOfFile, IsWhole, LacksBatch, LaneRead, NotOpen, generation_in, lane_in, lane_reads, placed}
-use Rattle.lane_format.specs.LaneRead.{NoBatch, OtherGeneration, OtherLane, Short}
+use Rattle.lane_format.specs.Batches.{ReadTo}
+use Rattle.lane_format.specs.LaneRead.{AgreesWith, DamagedAt, HasBatches, HasHead, Holding, IsDamaged, IsOfFile, IsWhole, LacksBatch, LacksHead, LaneRead, NotOpen, generation_in, head_reads, lane_in, lane_reads, placed}
+use Rattle.lane_format.specs.LaneRead.{InHead, NoBatch, OtherGeneration, OtherLane, Short}
+use Rattle.lane_format.specs.declared.head.Head.{Head}
+use Rattle.lane_format.specs.declared.head.Head.TheVariants as head
 use Rattle.lane_format.specs.declared.segment.Batch.{Batch}
 use Rattle.lane_format.proofs.Gates.{batch_there, length-batch_text, length_lacks, length_told, short_lacks}
 use Rattle.lane_format.proofs.Lanes.{one_more_fits}
@@ -82,10 +86,29 @@ module _ (odd : Bool) (lane : ℕ) (bytes : List ℕ) where
     | inr (inr on) ↦ absurd (ends_there b.bodies a.bodies b.rest a.rest b.end on)
   ]
 
+  no_head : (at : ℕ) → LacksHead odd lane bytes at → HasHead odd lane bytes → ⊥
+  no_head at (Short short is) head = omega (arith, short, head.long)
+  no_head at (OtherGeneration long other is) head = other head.generation
+  no_head at (OtherLane long generation other is) head = other head.lane_is
+
+  one_lack : (at at' : ℕ) → LacksHead odd lane bytes at → LacksHead odd lane bytes at' → at ≡ at'
+  one_lack at at' (Short short is) (Short short' is') = is ∙ sym is'
+  one_lack at at' (Short short is) (OtherGeneration long other is') = absurd (omega (arith, short, long))
+  one_lack at at' (Short short is) (OtherLane long generation other is') = absurd (omega (arith, short, long))
+  one_lack at at' (OtherGeneration long other is) (Short short is') = absurd (omega (arith, short, long))
+  one_lack at at' (OtherGeneration long other is) (OtherGeneration long' other' is') = is ∙ sym is'
+  one_lack at at' (OtherGeneration long other is) (OtherLane long' generation other' is') = absurd (other generation)
+  one_lack at at' (OtherLane long generation other is) (Short short is') = absurd (omega (arith, short, long))
+  one_lack at at' (OtherLane long generation other is) (OtherGeneration long' other' is') = absurd (other' generation)
+  one_lack at at' (OtherLane long generation other is) (OtherLane long' generation' other' is') = is ∙ sym is'
+
+  lack_before : (at : ℕ) → LacksHead odd lane bytes at → at < 11
+  lack_before at (Short short is) = omega (arith, is)
+  lack_before at (OtherGeneration long other is) = omega (arith, is)
+  lack_before at (OtherLane long generation other is) = omega (arith, is)
+
   not_both : (g at : ℕ) (batches : List Batch) → IsWhole odd lane bytes g batches → IsDamaged odd lane bytes at → ⊥
-  not_both g at batches a (Short short is) = omega (arith, short, a.head.long)
-  not_both g at batches a (OtherGeneration long other is) = other a.head.generation
-  not_both g at batches a (OtherLane long generation other is) = other a.head.lane_is
+  not_both g at batches a (InHead lacks) = no_head at lacks a.head
   not_both g at batches a (NoBatch bodies rest head text lacks is) = elim (runs_meet a.bodies bodies a.rest rest bytes a.text text) [
     | inl same ↦ a.end (subst IsOpen (sym same.1) lacks.gate)
     | inr (inl on) ↦ ends_there a.bodies bodies a.rest rest a.end on
@@ -93,21 +116,9 @@ module _ (odd : Bool) (lane : ℕ) (bytes : List ℕ) where
   ]
 
   one_place : (at at' : ℕ) → IsDamaged odd lane bytes at → IsDamaged odd lane bytes at' → at ≡ at'
-  one_place at at' (Short short is) (Short short' is') = is ∙ sym is'
-  one_place at at' (Short short is) (OtherGeneration long other is') = absurd (omega (arith, short, long))
-  one_place at at' (Short short is) (OtherLane long generation other is') = absurd (omega (arith, short, long))
-  one_place at at' (Short short is) (NoBatch bodies rest head text lacks is') = absurd (omega (arith, short, head.long))
-  one_place at at' (OtherGeneration long other is) (Short short is') = absurd (omega (arith, short, long))
-  one_place at at' (OtherGeneration long other is) (OtherGeneration long' other' is') = is ∙ sym is'
-  one_place at at' (OtherGeneration long other is) (OtherLane long' generation other' is') = absurd (other generation)
-  one_place at at' (OtherGeneration long other is) (NoBatch bodies rest head text lacks is') = absurd (other head.generation)
-  one_place at at' (OtherLane long generation other is) (Short short is') = absurd (omega (arith, short, long))
-  one_place at at' (OtherLane long generation other is) (OtherGeneration long' other' is') = absurd (other' generation)
-  one_place at at' (OtherLane long generation other is) (OtherLane long' generation' other' is') = is ∙ sym is'
-  one_place at at' (OtherLane long generation other is) (NoBatch bodies rest head text lacks is') = absurd (other head.lane_is)
-  one_place at at' (NoBatch bodies rest head text lacks is) (Short short is') = absurd (omega (arith, short, head.long))
-  one_place at at' (NoBatch bodies rest head text lacks is) (OtherGeneration long other is') = absurd (other head.generation)
-  one_place at at' (NoBatch bodies rest head text lacks is) (OtherLane long generation other is') = absurd (other head.lane_is)
+  one_place at at' (InHead lacks) (InHead lacks') = one_lack at at' lacks lacks'
+  one_place at at' (InHead lacks) (NoBatch bodies rest head text none is') = absurd (no_head at lacks head)
+  one_place at at' (NoBatch bodies rest head text none is) (InHead lacks') = absurd (no_head at' lacks' head)
   one_place at at' (NoBatch bodies rest head text lacks is) (NoBatch others rest' head' text' lacks' is') = elim (runs_meet bodies others rest rest' bytes text text') [
     | inl same ↦ is ∙ ap (λ (l : List (List ℕ)). 11 + length (flat_map batch_text l)) same.0 ∙ sym is'
     | inr (inl on) ↦ absurd (lacks_there bodies others rest rest' lacks text'.fit on)
@@ -124,6 +135,62 @@ module _ (odd : Bool) (lane : ℕ) (bytes : List ℕ) where
   at_most_one (Holding g batches) NotOpen first second = absurd (second first.0)
   at_most_one (Holding g batches) (DamagedAt at) first second = absurd (not_both g at batches first.1 second.1)
   at_most_one (Holding g batches) (Holding g' batches') first second = one_whole g g' batches batches' first.1 second.1
+
+  pub one_head : (a b : Head) → head_reads odd lane bytes a → head_reads odd lane bytes b → a ≡ b
+  one_head head.NotOpen head.NotOpen first second = refl
+  one_head head.NotOpen (head.Open g) first second = absurd (first second.0)
+  one_head head.NotOpen (head.Damaged at) first second = absurd (first second.0)
+  one_head (head.Open g) head.NotOpen first second = absurd (second first.0)
+  one_head (head.Open g) (head.Open g') first second = ap head.Open (first.2 ∙ sym second.2)
+  one_head (head.Open g) (head.Damaged at) first second = absurd (no_head at second.1 first.1)
+  one_head (head.Damaged at) head.NotOpen first second = absurd (second first.0)
+  one_head (head.Damaged at) (head.Open g) first second = absurd (no_head at first.1 second.1)
+  one_head (head.Damaged at) (head.Damaged at') first second = ap head.Damaged (one_lack at at' first.1 second.1)
+
+  behind_head_only : (at : ℕ) → HasHead odd lane bytes → IsDamaged odd lane bytes at → 11 ≤ at
+  behind_head_only at has (InHead lacks) = absurd (no_head at lacks has)
+  behind_head_only at has (NoBatch bodies rest head text lacks is) = omega (arith, is)
+
+  pub agrees : (h : Head) (read : LaneRead) → head_reads odd lane bytes h → lane_reads odd lane bytes read → AgreesWith h read
+  agrees head.NotOpen read first second = at_most_one read NotOpen second first
+  agrees (head.Damaged at) read first second = (lack_before at first.1, at_most_one read (DamagedAt at) second (first.0, InHead first.1))
+  agrees (head.Open g) NotOpen first second = absurd (second first.0)
+  agrees (head.Open g) (DamagedAt at) first second = inr (at, behind_head_only at first.1 second.1, refl)
+  agrees (head.Open g) (Holding g' batches) first second = inl (batches, ap (λ n. Holding n batches) (second.1.generation_is ∙ sym first.2))
+
+  pub reads_whole : (g : ℕ) (batches : List Batch) (gate : ℕ) → head_reads odd lane bytes (head.Open g) → ReadTo bytes batches gate → IsNotOpen (drop gate bytes) → lane_reads odd lane bytes (Holding g batches)
+  reads_whole g batches gate first so_far end = (first.0, record { bodies = so_far.bodies; rest = drop gate bytes; head = first.1; generation_is = first.2; text = so_far.text; end = end; batches_are = so_far.batches_are })
+
+  pub reads_broken : (g : ℕ) (batches : List Batch) (gate : ℕ) → head_reads odd lane bytes (head.Open g) → ReadTo bytes batches gate → LacksBatch (drop gate bytes) → lane_reads odd lane bytes (DamagedAt gate)
+  reads_broken g batches gate first so_far lacks = (first.0, NoBatch so_far.bodies (drop gate bytes) first.1 so_far.text lacks so_far.place)
+
+  front_placed : (gate : ℕ) (bodies others : List (List ℕ)) → (more : List Batch) × (placed gate (bodies ++ others) ≡ placed gate bodies ++ more)
+  front_placed gate [] others = (placed gate others, refl)
+  front_placed gate (b ∷ bodies) others =
+      let rest = front_placed (gate + 5 + length b) bodies others in
+      (rest.0, ap (λ (l : List Batch). let first : Batch = record { at = gate + 5; body = b } in first ∷ l) rest.1)
+
+  pub begins : (g : ℕ) (all batches : List Batch) (gate : ℕ) → lane_reads odd lane bytes (Holding g all) → ReadTo bytes batches gate → (more : List Batch) × (all ≡ batches ++ more)
+  begins g all batches gate reads so_far =
+      let whole = reads.1 in
+      elim (runs_meet so_far.bodies whole.bodies (drop gate bytes) whole.rest bytes so_far.text whole.text) [
+        | inl same ↦ ([], whole.batches_are ∙ ap (placed 11) (sym same.0) ∙ sym so_far.batches_are ∙ sym (append-nil batches))
+        | inr (inl on) ↦
+            let front = front_placed 11 so_far.bodies (on.0 ∷ on.1) in
+            (front.0, whole.batches_are ∙ ap (placed 11) on.2 ∙ front.1 ∙ ap (λ (l : List Batch). l ++ front.0) (sym so_far.batches_are))
+        | inr (inr on) ↦ absurd (ends_there whole.bodies so_far.bodies whole.rest (drop gate bytes) whole.end on)
+      ]
+
+  pub before_damage : (at : ℕ) (batches : List Batch) (gate : ℕ) → lane_reads odd lane bytes (DamagedAt at) → 11 ≤ at → ReadTo bytes batches gate → gate ≤ at
+  before_damage at batches gate reads late so_far = before (reads.1) where
+    before : IsDamaged odd lane bytes at → gate ≤ at
+    before (InHead lacks) = absurd (omega (arith, late, lack_before at lacks))
+    before (NoBatch bodies rest head text lacks is) = elim (runs_meet so_far.bodies bodies (drop gate bytes) rest bytes so_far.text text) [
+      | inl same ↦ omega (arith, so_far.place, is, ap (λ (l : List (List ℕ)). length (flat_map batch_text l)) same.0)
+      | inr (inl on) ↦
+          omega (arith, so_far.place, is, ap (λ (l : List (List ℕ)). length (flat_map batch_text l)) on.2, ap length (flat_map-append batch_text so_far.bodies (on.0 ∷ on.1)), length-append (flat_map batch_text so_far.bodies) (flat_map batch_text (on.0 ∷ on.1)))
+      | inr (inr on) ↦ absurd (lacks_there bodies so_far.bodies rest (drop gate bytes) lacks so_far.text.fit on)
+    ]
 
 -- ---- some reading
 
@@ -213,11 +280,11 @@ pub has_reading : (odd : Bool) (lane : ℕ) (bytes : List ℕ) → AreBytes byte
 has_reading odd lane bytes are = elim (cases_eq (slice_index bytes 0) 1) [
   | inr shut ↦ (NotOpen, shut)
   | inl gate ↦ elim (cases_lt (length bytes) 11) [
-    | inl short ↦ (DamagedAt 0, (gate, Short short refl))
+    | inl short ↦ (DamagedAt 0, (gate, InHead (Short short refl)))
     | inr long ↦ elim (of_file odd (generation_in bytes)) [
-      | inr other ↦ (DamagedAt 1, (gate, OtherGeneration long other refl))
+      | inr other ↦ (DamagedAt 1, (gate, InHead (OtherGeneration long other refl)))
       | inl generation ↦ elim (cases_eq (lane_in bytes) lane) [
-        | inr other ↦ (DamagedAt 9, (gate, OtherLane long generation other refl))
+        | inr other ↦ (DamagedAt 9, (gate, InHead (OtherLane long generation other refl)))
         | inl same ↦
             walk odd lane bytes gate (record { long = long; generation = generation; lane_is = same }) (length bytes) [] (drop 11 bytes) (record { fit = tt; text = refl }) (bytes-drop 11 bytes are) (omega (arith, length-drop 11 bytes))
       ]

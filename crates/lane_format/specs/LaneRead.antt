@@ -1,9 +1,11 @@
 -- What a lane file reads as, as a whole.
-use Rattle.std.specs.Prelude.{◌≡◌, ◌≢◌, ℕ, ◌+◌, ◌%◌, ◌<◌, ◌≤◌, Bool, if◌then◌else◌, List, [], ◌∷◌, ◌++◌}
+use Rattle.std.specs.Prelude.{◌≡◌, ◌≢◌, ◌⊎◌, ℕ, ◌+◌, ◌%◌, ◌<◌, ◌≤◌, Bool, if◌then◌else◌, List, [], ◌∷◌, ◌++◌}
 use Rattle.std.specs.Prelude.{length, take, drop, Option, None, Some, Result, Ok, Err}
 use Rattle.std.specs.List.{AllByRecursion, flat_map}
 use Rattle.std.specs.Int.{w16, w64, from_le_bytes}
 use Rattle.lane_format.specs.Lane.{IsBody, IsNotOpen, IsOpen, batch_text}
+use Rattle.lane_format.specs.declared.head.Head.{Head}
+use Rattle.lane_format.specs.declared.head.Head.TheVariants as head
 use Rattle.lane_format.specs.declared.segment.Batch.{Batch}
 use Rattle.lane_format.specs.declared.segment.Segment.{Segment}
 use Rattle.lane_format.specs.declared.segment.LaneReadFault.{LaneReadFault}
@@ -42,15 +44,26 @@ abbrev pub placed : ℕ → List (List ℕ) → List Batch
 placed gate [] = []
 placed gate (body ∷ bodies) = record { at = gate + 5; body = body } ∷ placed (gate + 5 + length body) bodies
 
+-- the head of an open file isn't that of this lane's file, and this is the first place at which it isn't
+pub data LacksHead (odd : Bool) (lane : ℕ) (bytes : List ℕ) (at : ℕ) : Type 0 where
+  Short : length bytes < 11 → at ≡ 0 → LacksHead odd lane bytes at
+  OtherGeneration : 11 ≤ length bytes → ¬ (IsOfFile odd (generation_in bytes)) → at ≡ 1
+      → LacksHead odd lane bytes at
+  OtherLane : 11 ≤ length bytes → IsOfFile odd (generation_in bytes) → lane_in bytes ≢ lane → at ≡ 9
+      → LacksHead odd lane bytes at
+
 -- the first place at which an open file isn't what a lane file holds
 pub data IsDamaged (odd : Bool) (lane : ℕ) (bytes : List ℕ) (at : ℕ) : Type 0 where
-  Short : length bytes < 11 → at ≡ 0 → IsDamaged odd lane bytes at
-  OtherGeneration : 11 ≤ length bytes → ¬ (IsOfFile odd (generation_in bytes)) → at ≡ 1
-      → IsDamaged odd lane bytes at
-  OtherLane : 11 ≤ length bytes → IsOfFile odd (generation_in bytes) → lane_in bytes ≢ lane → at ≡ 9
-      → IsDamaged odd lane bytes at
+  InHead : LacksHead odd lane bytes at → IsDamaged odd lane bytes at
   NoBatch : (bodies : List (List ℕ)) (rest : List ℕ) → HasHead odd lane bytes → HasBatches bodies rest bytes
       → LacksBatch rest → at ≡ 11 + length (flat_map batch_text bodies) → IsDamaged odd lane bytes at
+
+-- what the head of a file reads as: damage in it, or that of this lane's file with its generation
+abbrev pub head_reads : Bool → ℕ → List ℕ → Head → Type 0
+head_reads odd lane bytes head.NotOpen = IsNotOpen bytes
+head_reads odd lane bytes (head.Damaged at) = IsOpen bytes × LacksHead odd lane bytes at
+head_reads odd lane bytes (head.Open generation) =
+    IsOpen bytes × HasHead odd lane bytes × (generation ≡ generation_in bytes)
 
 -- the file is whole: behind these batches stands a gate that isn't open, or the file ends
 pub record IsWhole (odd : Bool) (lane : ℕ) (bytes : List ℕ) (generation : ℕ)
@@ -83,3 +96,11 @@ read_as (Ok (Some segment)) = Some (Holding segment.generation segment.batches)
 read_as (Err (Damaged file at)) = Some (DamagedAt at)
 read_as (Err (Disk file)) = None
 read_as (Err OutOfMemory) = None
+
+-- A file whose head reads so is read whole as something that agrees with it: it isn't open or is damaged in its
+-- head likewise, or it has that generation, whole or damaged behind its head.
+abbrev pub AgreesWith : Head → LaneRead → Type 0
+AgreesWith head.NotOpen read = read ≡ NotOpen
+AgreesWith (head.Damaged at) read = (at < 11) × (read ≡ DamagedAt at)
+AgreesWith (head.Open generation) read = ((batches : List Batch) × (read ≡ Holding generation batches))
+    ⊎ ((at : ℕ) × (11 ≤ at) × (read ≡ DamagedAt at))

@@ -1,3 +1,4 @@
+pub mod Batches
 pub mod Crash
 pub mod Lane
 pub mod LaneRead

@@ -1,32 +1,25 @@
--- How far a lane file is read, batch by batch.
-use Rattle.std.specs.Prelude.{◌≡◌, ℕ, ◌+◌, List, ◌++◌, length, drop, Option, None, Some, Result, Ok, Err}
-use Rattle.std.specs.List.{flat_map}
+-- How a reading of a whole file goes on from batch to batch, and how it ends.
+use Rattle.std.specs.Prelude.{◌≡◌, ℕ, List, length, drop, Option, None, Some, Result, Ok, Err}
 use Rattle.std.specs.Option.{ForSome}
 use Rattle.base_types.specs.Causes.{one_more}
-use Rattle.lane_format.specs.Lane.{IsBody, IsNotOpen, batch_text}
-use Rattle.lane_format.specs.LaneRead.{DamagedAt, HasBatches, Holding, LacksBatch, LaneRead, NotOpen, placed}
+use Rattle.lane_format.specs.Batches.{batch_at, stands}
+use Rattle.lane_format.specs.LaneRead.{DamagedAt, Holding, LaneRead, NotOpen}
+use Rattle.lane_format.specs.declared.gate.AtGate.TheVariants.{Body, Broken, End}
 use Rattle.lane_format.specs.declared.segment.Batch.{Batch}
 use Rattle.lane_format.specs.declared.segment.Segment.{Segment}
 use Rattle.lane_format.specs.declared.stop.ReadStop.{ReadStop}
 use Rattle.lane_format.specs.declared.stop.ReadStop.TheVariants.{Disk, Damaged, OutOfMemory}
 
--- these batches stand behind the head, up to the gate
-pub record ReadTo (bytes : List ℕ) (batches : List Batch) (gate : ℕ) : Type 0 where
-  pub bodies : List (List ℕ)
-  pub text : HasBatches bodies (drop gate bytes) bytes
-  pub place : gate ≡ 11 + length (flat_map batch_text bodies)
-  pub batches_are : batches ≡ placed 11 bodies
-
 -- at the gate stands this batch, or none: the gate isn't open
 abbrev pub NextIs : List ℕ → ℕ → Option Batch → Type 0
-NextIs bytes gate None = IsNotOpen (drop gate bytes)
+NextIs bytes gate None = stands (drop gate bytes) End
 NextIs bytes gate (Some batch) =
-    IsBody batch.body × (drop gate bytes ≡ batch_text batch.body ++ drop (gate + 5 + length batch.body) bytes)
+    stands (drop gate bytes) (Body (length batch.body)) × (batch ≡ batch_at bytes gate (length batch.body))
 
 -- an open gate without a batch stops the reading at its place
 abbrev pub StopsAt : Option (List ℕ) → ℕ → ReadStop → Type 0
 StopsAt content gate stop =
-    (at : ℕ) → stop ≡ Damaged at → (at ≡ gate) × ForSome content (λ bytes. LacksBatch (drop gate bytes))
+    (at : ℕ) → stop ≡ Damaged at → (at ≡ gate) × ForSome content (λ bytes. stands (drop gate bytes) Broken)
 
 -- with a stop for the disk exactly one call of it has failed, and with any other result none
 abbrev pub StopHasCause : {T : Type 0} → ℕ → ℕ → Result T ReadStop → Type 0

@@ -1,20 +1,22 @@
 // Reads a lane file whole.
-ghost use Rattle.std.specs.Prelude.{◌≡◌, ◌≢◌, ◌↔◌, ◌+◌, ◌<◌, ◌≤◌, ◌^◌, ℕ, List, length, take, drop};
-ghost use Rattle.std.specs.Prelude.{IsTrue, IfOk, IfErr, IfSome, OnOk};
-ghost use Rattle.std.specs.Int.{w32, from_le_bytes, to_le_bytes};
+ghost use Rattle.std.specs.Prelude.{◌≡◌, ◌≢◌, ◌+◌, ◌≤◌, ℕ, List, length, drop};
+ghost use Rattle.std.specs.Prelude.{IfOk, IfErr, IfSome, OnOk};
 ghost use Rattle.std.specs.Option.{ForSome};
 ghost use Rattle.base_types.specs.Causes.{HasCause, one_more};
 ghost use Rattle.disk_core.specs.Moments.{OnlyReads};
 ghost use Rattle.disk_core.specs.declared.store.FileName.{FileName};
-ghost use Rattle.lane_format.specs.Lane.{IsNotOpen, IsOpen};
-ghost use Rattle.lane_format.specs.LaneRead.{HasHead, IsDamaged, IsOfFile, LacksBatch, generation_in};
-ghost use Rattle.lane_format.specs.LaneRead.{lane_reads, read_as};
-ghost use Rattle.lane_format.specs.ReadingSteps.{NextIs, ReadTo, StopHasCause, StopsAt, found_as};
+ghost use Rattle.lane_format.specs.Batches.{ReadTo, stands};
+ghost use Rattle.lane_format.specs.LaneRead.{head_reads, lane_reads, read_as};
+ghost use Rattle.lane_format.specs.ReadingSteps.{NextIs, StopHasCause, StopsAt, found_as};
 ghost use Rattle.lane_format.specs.Windows.{IsWindow};
+ghost use Rattle.lane_format.specs.declared.gate.AtGate.TheVariants.{Body, Broken, End};
+ghost use Rattle.lane_format.specs.declared.head.Head.TheVariants.{Open};
 
 use crate::stop::ReadStop;
 use crate::window::Window;
-use crate::{BATCH_HEAD, Batch, FIRST_GATE, LaneReadFault, OPEN, Segment};
+use crate::{
+    AtGate, BATCH_HEAD, Batch, FIRST_GATE, HEAD, Head, LaneReadFault, Segment, at_gate, read_head,
+};
 use base_types::Items;
 use disk_core::{Disk, Failed, FileName};
 use std::alloc::Global;
@@ -62,65 +64,32 @@ fn read<D: Disk>(
     ensures cause { StopHasCause (D.faults disk.old) (D.faults disk.new) result }
 {
     let size = disk.size()?;
-    if !is_open(disk, size)? {
-        return Ok(None);
+    match head_of(disk, size, odd, lane)? {
+        Head::NotOpen => Ok(None),
+        Head::Damaged { at } => Err(ReadStop::Damaged { at }),
+        Head::Open { generation } => {
+            let batches = read_batches(alloc, disk, size)?;
+            Ok(Some(Segment {
+                generation,
+                batches: Items::from_vec(batches),
+            }))
+        }
     }
-    let generation = read_head(disk, size, odd, lane)?;
-    let batches = read_batches(alloc, disk, size)?;
-    Ok(Some(Segment {
-        generation,
-        batches: Items::from_vec(batches),
-    }))
 }
 
-/// Whether the file's gate is open.
-fn is_open<D: Disk>(disk: &mut D, size: u64) -> Result<bool, Failed>
+/// What the file's head says.
+fn head_of<D: Disk>(disk: &mut D, size: u64, odd: bool, lane: u16) -> Result<Head, Failed>
     requires { ForSome (D.content disk.old) (λ bytes. size ≡ length bytes) }
-    ensures gate { IfOk result (λ is_open. ForSome (D.content disk.old) (λ bytes.
-        IsTrue is_open ↔ IsOpen bytes)) }
+    ensures head { IfOk result (λ head. ForSome (D.content disk.old) (λ bytes.
+        head_reads odd lane bytes head)) }
+    ensures long { (generation : ℕ) → result ≡ Ok (Open generation) → 11 ≤ size }
     ensures only_reads { OnlyReads D.Disk disk.old disk.new }
     ensures cause { HasCause (D.faults disk.old) (D.faults disk.new) result }
 {
-    if size == 0 {
-        return Ok(false);
-    }
-    let mut gate = [0];
-    disk.read_at(0, &mut gate)?;
-    Ok(gate[0] == OPEN)
-}
-
-/// The generation that the head says, where it is one of this file and the head that of this lane.
-fn read_head<D: Disk>(disk: &mut D, size: u64, odd: bool, lane: u16) -> Result<u64, ReadStop>
-    requires { ForSome (D.content disk.old) (λ bytes. size ≡ length bytes) }
-    ensures long { OnOk result (11 ≤ size) }
-    ensures head { IfOk result (λ generation. ForSome (D.content disk.old) (λ bytes.
-        HasHead odd lane bytes × (generation ≡ generation_in bytes))) }
-    ensures damaged { (at : ℕ) → result ≡ Err (ReadStop.Damaged at) →
-        ForSome (D.content disk.old) (λ bytes. IsDamaged odd lane bytes at) }
-    ensures only_reads { OnlyReads D.Disk disk.old disk.new }
-    ensures cause { StopHasCause (D.faults disk.old) (D.faults disk.new) result }
-{
-    if size < FIRST_GATE {
-        return Err(ReadStop::Damaged { at: 0 });
-    }
-    let mut generation = [0; 8];
-    disk.read_at(1, &mut generation)?;
-    let generation = u64::from_le_bytes(generation);
-    if !is_of_file(odd, generation) {
-        return Err(ReadStop::Damaged { at: 1 });
-    }
-    let mut number = [0; 2];
-    disk.read_at(9, &mut number)?;
-    if u16::from_le_bytes(number) != lane {
-        return Err(ReadStop::Damaged { at: 9 });
-    }
-    Ok(generation)
-}
-
-fn is_of_file(odd: bool, generation: u64) -> bool
-    ensures { IsTrue result ↔ IsOfFile odd generation }
-{
-    generation > 0 && (generation % 2 == 1) == odd
+    let mut front = [0; HEAD];
+    let front = &mut front[..size.min(HEAD as u64) as usize];
+    disk.read_at(0, front)?;
+    Ok(read_head(front, odd, lane))
 }
 
 /// Reads the batches behind the head.
@@ -128,10 +97,10 @@ fn read_batches<D: Disk>(alloc: Global, disk: &mut D, size: u64) -> Result<Vec<B
     requires size { ForSome (D.content disk.old) (λ bytes. size ≡ length bytes) }
     requires head { 11 ≤ size }
     ensures whole { IfOk result (λ batches. ForSome (D.content disk.old) (λ bytes. (gate : ℕ)
-        × ReadTo bytes batches.items gate × IsNotOpen (drop gate bytes))) }
+        × ReadTo bytes batches.items gate × stands (drop gate bytes) End)) }
     ensures damaged { (at : ℕ) → result ≡ Err (ReadStop.Damaged at) →
         ForSome (D.content disk.old) (λ bytes. (batches : List Batch)
-        × ReadTo bytes batches at × LacksBatch (drop at bytes)) }
+        × ReadTo bytes batches at × stands (drop at bytes) Broken) }
     ensures only_reads { OnlyReads D.Disk disk.old disk.new }
     ensures cause { StopHasCause (D.faults disk.old) (D.faults disk.new) result }
 {
@@ -168,79 +137,41 @@ fn read_batch<D: Disk>(
     ensures only_reads { OnlyReads D.Disk disk.old disk.new }
     ensures cause { StopHasCause (D.faults disk.old) (D.faults disk.new) result }
 {
-    if !has_open_gate(disk, window, size, gate)? {
-        return Ok(None);
+    match gate_of(disk, window, size, gate)? {
+        AtGate::End => Ok(None),
+        AtGate::Broken => Err(ReadStop::Damaged { at: gate }),
+        AtGate::Body { len } => {
+            let at = gate + BATCH_HEAD;
+            let mut body: Vec<u8> = vec![in alloc; 0; len as usize]?;
+            window.fetch(disk, size, at, &mut body)?;
+            Ok(Some(Batch {
+                at,
+                body: Items::from_vec(body),
+            }))
+        }
     }
-    let len = body_len(disk, window, size, gate)?;
-    let mut body: Vec<u8> = vec![in alloc; 0; len]?;
-    let at = gate + BATCH_HEAD;
-    window.fetch(disk, size, at, &mut body)?;
-    Ok(Some(Batch {
-        at,
-        body: Items::from_vec(body),
-    }))
 }
 
-/// Whether an open gate stands there.
-fn has_open_gate<D: Disk>(
+/// What stands at a gate.
+fn gate_of<D: Disk>(
     disk: &mut D,
     window: &mut Window,
     size: u64,
     gate: u64,
-) -> Result<bool, Failed>
+) -> Result<AtGate, Failed>
     requires size { ForSome (D.content disk.old) (λ bytes. size ≡ length bytes) }
     requires inside { gate ≤ size }
     requires window { IsWindow (D.content disk.old) window.old }
-    ensures gate { IfOk result (λ is_open. ForSome (D.content disk.old) (λ bytes.
-        IsTrue is_open ↔ IsOpen (drop gate bytes))) }
-    ensures inside { IfOk result (λ is_open. IsTrue is_open → gate + 1 ≤ size) }
+    ensures stands { IfOk result (λ found. ForSome (D.content disk.old) (λ bytes.
+        stands (drop gate bytes) found)) }
+    ensures inside { (len : ℕ) → result ≡ Ok (Body len) → (1 ≤ len) × (gate + 5 + len ≤ size) }
     ensures window { OnOk result (IsWindow (D.content disk.old) window.new) }
     ensures only_reads { OnlyReads D.Disk disk.old disk.new }
     ensures cause { HasCause (D.faults disk.old) (D.faults disk.new) result }
 {
-    if gate == size {
-        return Ok(false);
-    }
-    let mut found = [0];
-    window.fetch(disk, size, gate, &mut found)?;
-    Ok(found[0] == OPEN)
-}
-
-/// The length of the body behind an open gate, where such a body lies within the file.
-fn body_len<D: Disk>(
-    disk: &mut D,
-    window: &mut Window,
-    size: u64,
-    gate: u64,
-) -> Result<usize, ReadStop>
-    requires size { ForSome (D.content disk.old) (λ bytes. size ≡ length bytes) }
-    requires inside { gate + 1 ≤ size }
-    requires open { ForSome (D.content disk.old) (λ bytes. IsOpen (drop gate bytes)) }
-    requires window { IsWindow (D.content disk.old) window.old }
-    ensures len { IfOk result (λ len. (1 ≤ len) × (len < 2 ^ 32) × (gate + 5 + len ≤ size)
-        × ForSome (D.content disk.old) (λ bytes. take 4 (drop (gate + 1) bytes) ≡ to_le_bytes w32 len)) }
-    ensures damaged { IfErr result (StopsAt (D.content disk.old) gate) }
-    ensures window { OnOk result (IsWindow (D.content disk.old) window.new) }
-    ensures only_reads { OnlyReads D.Disk disk.old disk.new }
-    ensures cause { StopHasCause (D.faults disk.old) (D.faults disk.new) result }
-{
-    if size - gate < BATCH_HEAD {
-        return Err(ReadStop::Damaged { at: gate });
-    }
-    let mut length = [0; 4];
-    window.fetch(disk, size, gate + 1, &mut length)?;
-    let len = number_in(&length);
-    if len == 0 || size - gate - BATCH_HEAD < u64::from(len) {
-        return Err(ReadStop::Damaged { at: gate });
-    }
-    Ok(len as usize)
-}
-
-/// The number that these four bytes stand for.
-fn number_in(bytes: &[u8]) -> u32
-    requires { length bytes.now ≡ 4 }
-    ensures value { result ≡ from_le_bytes w32 bytes.now }
-    ensures bytes { to_le_bytes w32 result ≡ bytes.now }
-{
-    u32::from_le_bytes([bytes[0], bytes[1], bytes[2], bytes[3]])
+    let left = size - gate;
+    let mut front = [0; 5];
+    let front = &mut front[..left.min(BATCH_HEAD) as usize];
+    window.fetch(disk, size, gate, front)?;
+    Ok(at_gate(front, left))
 }

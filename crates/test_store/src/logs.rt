@@ -122,9 +122,9 @@ fn a_file_with_another_head_is_damaged_there(rt: HostRuntime) -> Result<(), Fail
 fn a_read_that_fails_names_the_file(rt: HostRuntime) -> Result<(), Fail> {
     let alloc = rt.alloc();
     let bytes = log_of(alloc, &[PUT, BOTH], b"\0")?;
-    for call in 1..8 {
+    for call in 1..6 {
         let disk = disk(alloc, &bytes, 4000)?.failing(Vec::new(alloc), vec![in alloc; call]?);
-        let wants = if call < 7 {
+        let wants = if call < 5 {
             "lane0.even failed"
         } else {
             "open"

@@ -1,7 +1,7 @@
 use Rattle.std.proofs.Common.{◌≡◌, ◌-◌, ◌≤◌}
 use Rattle.std.specs.Option.{ForSome}
 use Rattle.disk_core.specs.Moments.{OnlyReads}
-use Rattle.lane_format.specs.ReadingSteps.{ReadTo}
+use Rattle.lane_format.specs.Batches.{ReadTo}
 use Rattle.lane_format.specs.Windows.{IsWindow}
 use Rattle.lane_format.proofs.read.read_batches.Given as goal
 
