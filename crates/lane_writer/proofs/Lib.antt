@@ -1,0 +1,5 @@
+pub mod Blanks
+pub mod Crash
+pub mod Left
+pub mod Told
+pub mod Writes

@@ -1,0 +1,4 @@
+pub mod Crash
+pub mod Parity
+pub mod Plans
+pub mod Writer
