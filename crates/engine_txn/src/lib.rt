@@ -1,6 +1,7 @@
 //! Blocks run over any keeper of rows: each try of a block is at most one transaction.
 #![tactic(auto)]
 
+mod answer;
 mod begun;
 mod block;
 mod calls;
@@ -9,6 +10,7 @@ mod read;
 mod statement;
 mod tried;
 
+pub use answer::Answer;
 pub use block::try_block;
 pub use calls::BlockCalls;
 pub use tried::Tried;

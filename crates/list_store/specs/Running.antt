@@ -22,8 +22,8 @@ use Rattle.call_laws.specs.Comings.{LacksBy, SpentBy}
 use Rattle.list_store.specs.Keeping.{Keeps, Secures, batches_in, defs_of, disk_of, gate_of}
 use Rattle.list_store.specs.Log.{IsLogOf}
 use Rattle.list_store.specs.declared.store.ListStore.{ListStore}
-use Rattle.list_store.specs.declared.answer.Answer.{Answer}
-use Rattle.list_store.specs.declared.answer.Answer.TheVariants.{Said, Stopped, OutOfMemory}
+use Rattle.engine_txn.specs.declared.answer.Answer.{Answer}
+use Rattle.engine_txn.specs.declared.answer.Answer.TheVariants.{Said, Stopped, OutOfMemory}
 
 -- what a reply says to be lacking is used up where the log has these batches,
 -- and what it says to be spent has the one limit of all that is counted

@@ -2,13 +2,11 @@
 //! other, and each that changes rows is on the disk before it is answered.
 #![tactic(auto)]
 
-mod answer;
 mod fault;
 mod laws;
 mod reading;
 mod store;
 
-pub use answer::Answer;
 pub use base_types::OutOfMemory;
 pub use fault::OpenFault;
 pub use laws::{one_beginning, one_reading, some_reading};

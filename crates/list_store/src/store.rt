@@ -6,10 +6,10 @@ ghost use Rattle.lane_format.specs.Writer as lane;
 ghost use Rattle.list_store.specs.Faults.{NamesItsFile, OldOrEmpty};
 ghost use Rattle.lane_format.specs.declared.writer.Stage.TheVariants.{Adopted, Open};
 
+use crate::OpenFault;
 use crate::reading::{Found, GENERATION, LANE, read_log};
-use crate::{Answer, OpenFault};
 use disk_core::Disk;
-use engine_txn::{Tried, try_block};
+use engine_txn::{Answer, Tried, try_block};
 use lane_format::{LaneFault, LaneWriter};
 use list_keeper::ListKeeper;
 use row_types::{Block, Items, Schema};

@@ -11,7 +11,8 @@ ghost use Rattle.section_runs.specs.Sections.{stopped_in, with_replies};
 
 use crate::{Halt, ReadySection, SectionRun};
 use disk_core::Disk;
-use list_store::{Answer, ListStore};
+use engine_txn::Answer;
+use list_store::ListStore;
 use plain_model::Reply;
 use row_types::{Block, Items};
 use std::alloc::Global;
