@@ -14,34 +14,34 @@ use Rattle.plain_model.specs.Runs.{keys_taken, pushed, rows_put}
 use Rattle.sql_exec.specs.declared.act.Act.{Act}
 use Rattle.sql_exec.specs.declared.act.Act.TheVariants.{Keep, Set, Take, Refuse}
 use Rattle.sql_exec.specs.Acts.{done_count, effect, effects, is_done, is_refused, put_by, some_refused, taken_by}
-use Rattle.sql_exec.specs.Bodies.{CanWrite, Works, here, did, stopped}
+use Rattle.sql_exec.specs.Bodies.{CanWrite, OnlyForward, here, did, stopped}
 use Rattle.sql_exec.specs.Means.{IsOwnOrBy}
 use Rattle.sql_exec.specs.Pieces.{ActsOne, DidAct, SendsAll, StoppedAct}
 use Rattle.sql_exec.specs.Sends.{SendsOnly}
 use Rattle.sql_exec.proofs.Fronts.{front_one, split_at}
 use Rattle.sql_exec.proofs.Playing.{write_since}
-use Rattle.sql_exec.proofs.Working.{works_since}
+use Rattle.sql_exec.proofs.Forward.{forward_since}
 
 -- ---- one row
 
 module _ (marks : List ℕ) (table : ℕ) where
-  did_works : (a : Act) (row : List Value) (old new : List Call) → DidAct marks table a row old new → Works old new
-  did_works Keep row old new is = subst (Works old) (sym is) here
-  did_works (Set other) row old new is = subst (Works old) (sym is) (did _ _ refl here)
-  did_works Take row old new is = subst (Works old) (sym is.1) (did _ _ refl here)
-  did_works Refuse row old new is = subst (Works old) (sym is) here
+  did_forward : (a : Act) (row : List Value) (old new : List Call) → DidAct marks table a row old new → OnlyForward old new
+  did_forward Keep row old new is = subst (OnlyForward old) (sym is) here
+  did_forward (Set other) row old new is = subst (OnlyForward old) (sym is) (did _ _ refl here)
+  did_forward Take row old new is = subst (OnlyForward old) (sym is.1) (did _ _ refl here)
+  did_forward Refuse row old new is = subst (OnlyForward old) (sym is) here
 
-  pub stopped_works : (a : Act) (row : List Value) (stop : Stop) (old new : List Call) → StoppedAct marks table a row stop old new → Works old new
-  stopped_works (Set other) row stop old new is = subst (Works old) (sym is.0) (stopped _ _ _ refl here)
-  stopped_works Take row stop old new is = subst (Works old) (sym is.0) (stopped _ _ _ refl here)
-  stopped_works Keep row stop old new is = absurd is
-  stopped_works Refuse row stop old new is = absurd is
+  pub stopped_forward : (a : Act) (row : List Value) (stop : Stop) (old new : List Call) → StoppedAct marks table a row stop old new → OnlyForward old new
+  stopped_forward (Set other) row stop old new is = subst (OnlyForward old) (sym is.0) (stopped _ _ _ refl here)
+  stopped_forward Take row stop old new is = subst (OnlyForward old) (sym is.0) (stopped _ _ _ refl here)
+  stopped_forward Keep row stop old new is = absurd is
+  stopped_forward Refuse row stop old new is = absurd is
 
-  pub acts_works : (a : Act) (row : List Value) (old : List Call) (result : Result (Option Bool) Stop) (new : List Call) → ActsOne marks table a row old result new → Works old new
-  acts_works a row old (Ok (Some done)) new is = did_works a row old new is.2
-  acts_works a row old (Ok None) new is = subst (Works old) (sym is.1) here
-  acts_works a row old (Err stop) new (inl is) = subst (Works old) (sym is.1) here
-  acts_works a row old (Err stop) new (inr is) = stopped_works a row stop old new is
+  pub acts_forward : (a : Act) (row : List Value) (old : List Call) (result : Result (Option Bool) Stop) (new : List Call) → ActsOne marks table a row old result new → OnlyForward old new
+  acts_forward a row old (Ok (Some done)) new is = did_forward a row old new is.2
+  acts_forward a row old (Ok None) new is = subst (OnlyForward old) (sym is.1) here
+  acts_forward a row old (Err stop) new (inl is) = subst (OnlyForward old) (sym is.1) here
+  acts_forward a row old (Err stop) new (inr is) = stopped_forward a row stop old new is
 
   did_runs : (a : Act) (row : List Value) (old new : List Call) → DidAct marks table a row old new → is_running new ≡ is_running old
   did_runs Keep row old new is = ap is_running is
@@ -55,7 +55,7 @@ module _ (marks : List ℕ) (table : ℕ) where
 
   pub acts_can : (a : Act) (row : List Value) (lo hi : ℕ) (old : List Call) (result : Option Bool) (new : List Call) → ActsOne marks table a row old (Ok result) new → CanWrite old table lo hi → CanWrite new table lo hi
   acts_can a row lo hi old result new is can =
-      (subst IsTrue (sym (acts_runs a row old result new is)) can.0, write_since old new table lo hi (works_since old new (acts_works a row old (Ok result) new is)) can.1)
+      (subst IsTrue (sym (acts_runs a row old result new is)) can.0, write_since old new table lo hi (forward_since old new (acts_forward a row old (Ok result) new is)) can.1)
 
   pub acts_end : (a : Act) (row : List Value) (stop : Stop) (old new : List Call) → IsTrue (is_running old) → ActsOne marks table a row old (Err stop) new → IsOwnOrBy new stop
   acts_end a row stop old new runs (inl is) = inl is.0

@@ -24,7 +24,7 @@ use Rattle.plain_model.specs.Meaning.{count_of, duplicate, inserts_unless, key_n
 use Rattle.plain_model.specs.Runs as runs
 use Rattle.plain_model.specs.Runs.{Since, keys_taken, pushed, rows_put}
 use Rattle.sql_exec.specs.declared.act.Changes.TheVariants.{Made, Duplicate}
-use Rattle.sql_exec.specs.Bodies.{CanWrite, ChangesEnd, InsertedSoFar, InsertsOne, PlanLacks, Works, here, did, stopped}
+use Rattle.sql_exec.specs.Bodies.{CanWrite, ChangesEnd, InsertedSoFar, InsertsOne, PlanLacks, OnlyForward, here, did, stopped}
 use Rattle.sql_exec.specs.Plays.{OnTable, PlaysFrom, Turns}
 use Rattle.sql_exec.specs.Sends.{SendsOnly}
 use Rattle.sql_exec.proofs.Acting.{pushed_on, sends_front}
@@ -32,19 +32,19 @@ use Rattle.sql_exec.proofs.Calling.{get_says, keys_def, put_turns}
 use Rattle.sql_exec.proofs.Fronts.{front_one, split_at}
 use Rattle.sql_exec.proofs.Playing.{plays_since, write_since}
 use Rattle.sql_exec.proofs.OneTable.{on_weaker, turns_on}
-use Rattle.sql_exec.proofs.Working.{works_since}
+use Rattle.sql_exec.proofs.Forward.{forward_since}
 
 -- ---- the calls
 
 module _ (n key : ℕ) (row : List Value) where
-  pub inserts_works : (old : List Call) (result : Result Bool Stop) (new : List Call) → InsertsOne n key row old result new → Works old new
-  inserts_works old (Ok true) new is = subst (Works old) (sym is) (did _ _ refl (did _ _ refl here))
-  inserts_works old (Ok false) new is = subst (Works old) (sym is.1) (did _ _ refl here)
-  inserts_works old (Err stop) new (inl is) = subst (Works old) (sym is.0) (stopped _ _ _ refl here)
-  inserts_works old (Err stop) new (inr is) = subst (Works old) (sym is.0) (stopped _ _ _ refl (did _ _ refl here))
+  pub inserts_forward : (old : List Call) (result : Result Bool Stop) (new : List Call) → InsertsOne n key row old result new → OnlyForward old new
+  inserts_forward old (Ok true) new is = subst (OnlyForward old) (sym is) (did _ _ refl (did _ _ refl here))
+  inserts_forward old (Ok false) new is = subst (OnlyForward old) (sym is.1) (did _ _ refl here)
+  inserts_forward old (Err stop) new (inl is) = subst (OnlyForward old) (sym is.0) (stopped _ _ _ refl here)
+  inserts_forward old (Err stop) new (inr is) = subst (OnlyForward old) (sym is.0) (stopped _ _ _ refl (did _ _ refl here))
 
   pub inserts_can : (lo hi : ℕ) (old new : List Call) → InsertsOne n key row old (Ok true) new → CanWrite old n lo hi → CanWrite new n lo hi
-  inserts_can lo hi old new is can = (subst (λ (calls : List Call). IsTrue (is_running calls)) (sym is) can.0, write_since old new n lo hi (works_since old new (inserts_works old (Ok true) new is)) can.1)
+  inserts_can lo hi old new is can = (subst (λ (calls : List Call). IsTrue (is_running calls)) (sym is) can.0, write_since old new n lo hi (forward_since old new (inserts_forward old (Ok true) new is)) can.1)
 
 -- ---- the rows
 
@@ -162,7 +162,7 @@ module _ (defs : List TableDef) (n : ℕ) (list : Rows) (i : ℕ) (row : List Va
 
     pub row_stops : (stop : Stop) → OnTable defs n SoFar start old → InsertsOne n key row old (Err stop) new → OnTable defs n (ChangesEnd (def_at defs n) (Insert p) (Err stop)) start new
     row_stops stop so_far (inl is) first plays =
-        let was = plays_since defs first old new (works_since old new (inserts_works n key row old (Err stop) new (inl is))) plays in
+        let was = plays_since defs first old new (forward_since old new (inserts_forward n key row old (Err stop) new (inl is))) plays in
         let before = so_far first was in
         subst (λ (calls : List Call). Turns n (ChangesEnd (def_at defs n) (Insert p) (Err stop)) (tables_of first start) (tables_of first calls)) (sym is.0)
         (record { others = before.others; rows = stop_rows stop _ _ (λ resource e. absurd (lacks_get resource (subst (MayGive (AskGet n key)) e is.1))) })

@@ -10,7 +10,6 @@ use Rattle.plain_model.specs.declared.reply.Reply.TheVariants as replies
 use Rattle.plain_model.specs.declared.reply.Refusal.TheVariants.{Range}
 use Rattle.plain_model.specs.declared.stop.Stop.{Stop}
 use Rattle.plain_model.specs.declared.stop.Stop.TheVariants as stops
-use Rattle.plain_model.specs.Meaning.{totals_reply}
 use Rattle.plain_model.specs.Values.{fits_int}
 use Rattle.sql_exec.specs.Bodies.{RepliesWithoutKeys}
 use Rattle.sql_exec.specs.Means.{IsNoLackReply, IsOwn}

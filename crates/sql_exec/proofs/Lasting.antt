@@ -9,6 +9,7 @@ use Rattle.row_types.specs.declared.row.Value.{Value}
 use Rattle.row_types.specs.Schema.{keys_at}
 use Rattle.key_space.specs.declared.range.Range.{Range}
 use Rattle.key_space.specs.Plays.{Rows}
+use Rattle.key_space.specs.Ranges.{IsNotEmpty}
 use Rattle.sql_check.specs.declared.plan.SelectPlan.{SelectPlan}
 use Rattle.plain_model.specs.declared.stop.Stop.{Stop}
 use Rattle.plain_model.specs.Calls.{Call}
@@ -19,12 +20,14 @@ use Rattle.sql_exec.specs.declared.window.Width.{Width}
 use Rattle.sql_exec.specs.declared.window.Window.{Window}
 use Rattle.sql_exec.specs.declared.window.Window.TheVariants.{GivenUp}
 use Rattle.sql_exec.specs.Acts.{rows_in}
+use Rattle.sql_exec.specs.Bodies.{OnlyForward}
 use Rattle.sql_exec.specs.Plays.{OnTable}
 use Rattle.sql_exec.specs.Selects.{FoundInOrder, in_columns}
 use Rattle.sql_exec.specs.Windows.{FoundLast, last_shown}
+use Rattle.sql_exec.proofs.Forward.{forward_since}
 use Rattle.sql_exec.proofs.Fronts.{front_more}
-use Rattle.sql_exec.proofs.OneTable.{on_after, on_weaker}
-use Rattle.sql_exec.proofs.PieceLaws.{none_from, rows_split}
+use Rattle.sql_exec.proofs.OneTable.{on_after}
+use Rattle.sql_exec.proofs.PieceLaws.{rows_split}
 use Rattle.sql_exec.proofs.Ranging.{Ordered}
 use Rattle.sql_exec.proofs.Reading.{on_ordered}
 use Rattle.sql_exec.proofs.Showing.{none_kept, one_kept, passing}
@@ -107,10 +110,6 @@ module _ (defs : List TableDef) (n : ℕ) (p : SelectPlan) (limit : ℕ) (found 
       on_ordered defs n (λ r. found ≡ last_shown p limit (rows_in marks mid end r)) (λ r. found ≡ last_shown p limit (rows_in marks lo end r)) start old since
       (λ r order is. is ∙ last_enough p limit (rows_in marks lo mid r) (rows_in marks mid end r) (subst (λ (l : Rows). limit ≤ length l) is many) ∙ ap (last_shown p limit) (sym (rows_split marks lo mid end r low high order.rise))) so_far
 
-  -- a window that changes nothing
-  pub last_stays : (lo end : ℕ) → Since old new → OnTable defs n (LastFrom lo end) start old → OnTable defs n (λ r s. s ≡ r) old new → OnTable defs n (LastFrom lo end) start new
-  last_stays lo end since so_far read = on_after defs n (LastFrom lo end) (λ r s. s ≡ r) (LastFrom lo end) start old new since (λ r s t f e. (f.0, e ∙ f.1)) so_far read
-
   -- a window that was read
   pub last_window : (part : Rows) (wanted lo mid end : ℕ) → lo ≤ mid → mid ≤ end → Since start old → Since old new → wanted ≡ limit - length found → 1 ≤ wanted → OnTable defs n (LastFrom mid end) start old
       → OnTable defs n (λ r s. (part ≡ last_shown p wanted (rows_in marks lo mid r)) × (s ≡ r)) old new → OnTable defs n (λ r s. (found ++ part ≡ last_shown p limit (rows_in marks lo end r)) × (s ≡ r)) start new
@@ -123,12 +122,16 @@ module _ (defs : List TableDef) (n : ℕ) (p : SelectPlan) (limit : ℕ) (found 
         e.1 ∙ f.1,
       )) with_order read
 
+-- the windows from one key on were read, and the next one below them
+module _ {defs : List TableDef} {n : ℕ} {start old new : List Call} (p : SelectPlan) (limit wanted : ℕ) (found part : Rows) (window : Range) (mid end : ℕ) (forward : OnlyForward start old) (then_on : OnlyForward old new)
+    (so_far : OnTable defs n (λ r s. (found ≡ last_shown p limit (rows_in (keys_at defs n) mid end r)) × (s ≡ r)) start old) (read : OnTable defs n (λ r s. FoundLast (keys_at defs n) window p wanted part r × (s ≡ r)) old new) where
+  pub window_read : IsNotEmpty window → window.hi.number + 1 ≡ mid → mid ≤ end → (wanted ≡ limit - length found) × (1 ≤ wanted) → OnTable defs n (λ r s. (found ++ part ≡ last_shown p limit (rows_in (keys_at defs n) window.lo.number end r)) × (s ≡ r)) start new
+  window_read some high below facts =
+      last_window defs n p limit found start old new part wanted window.lo.number mid end (omega (arith, some, high)) below (forward_since start old forward) (forward_since old new then_on) facts.0 facts.1 so_far
+      (subst (λ k. OnTable defs n (λ r s. (part ≡ last_shown p wanted (rows_in (keys_at defs n) window.lo.number k r)) × (s ≡ r)) old new) high read)
+
 -- the last rows of a range that pass are the first in falling order
-pub last_in_order : (defs : List TableDef) (p : SelectPlan) (range : Range) (start new : List Call) (limit : ℕ) (found : Rows) → p.is_falling ≡ true → p.limit ≡ Some limit
-    → OnTable defs p.table (FoundLast (keys_at defs p.table) range p limit found) start new → OnTable defs p.table (FoundInOrder (keys_at defs p.table) range p found) start new
-last_in_order defs p range start new limit found falling most body =
-    on_weaker defs p.table (FoundLast (keys_at defs p.table) range p limit found) (FoundInOrder (keys_at defs p.table) range p found) start new
-    (λ r s f. let kept = filter (passes_all p.conditions) (rows_in (keys_at defs p.table) range.lo.number (range.hi.number + 1) r) in (
-      f.0 ∙ ap (λ b. map (in_columns p.columns) (take limit (put_in_order b kept))) (sym falling) ∙ ap (λ o. map (in_columns p.columns) (limited o (put_in_order p.is_falling kept))) (sym most),
-      f.1,
-    )) body
+pub last_in_order : (marks : List ℕ) (p : SelectPlan) (range : Range) (limit : ℕ) (found rows : Rows) → p.is_falling ≡ true → p.limit ≡ Some limit → FoundLast marks range p limit found rows → FoundInOrder marks range p found rows
+last_in_order marks p range limit found rows falling most is =
+    let kept = filter (passes_all p.conditions) (rows_in marks range.lo.number (range.hi.number + 1) rows) in
+    is ∙ ap (λ b. map (in_columns p.columns) (take limit (put_in_order b kept))) (sym falling) ∙ ap (λ o. map (in_columns p.columns) (limited o (put_in_order p.is_falling kept))) (sym most)

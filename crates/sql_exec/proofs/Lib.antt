@@ -1,6 +1,8 @@
 pub mod Acting
 pub mod Calling
+pub mod ChangeLoops
 pub mod Fitting
+pub mod Forward
 pub mod Fronts
 pub mod InPlaces
 pub mod Inserting
@@ -14,6 +16,7 @@ pub mod Piecing
 pub mod Planning
 pub mod Playing
 pub mod Ranging
+pub mod ReadLoops
 pub mod Reading
 pub mod Settling
 pub mod Showing
@@ -21,4 +24,3 @@ pub mod Summing
 pub mod Totalling
 pub mod Turning
 pub mod Wholes
-pub mod Working

@@ -14,8 +14,6 @@ use Rattle.key_space.specs.declared.range.Range.{Range}
 use Rattle.key_space.specs.Plays.{Rows, Part, row_at}
 use Rattle.key_space.proofs.LookUpLaws.{row_at-with_row, row_at-without_key}
 use Rattle.key_space.proofs.PlaysLaws.{rise_filter, all_filter}
-use Rattle.sql_check.specs.declared.plan.Plan.{Plan}
-use Rattle.sql_check.specs.declared.plan.Plan.TheVariants as plans
 use Rattle.plain_model.specs.declared.stop.Stop.{Stop}
 use Rattle.plain_model.specs.declared.stop.Stop.TheVariants as stops
 use Rattle.plain_model.specs.declared.stop.Resource.{Resource}
@@ -29,10 +27,12 @@ use Rattle.plain_model.proofs.CallLaws.{since_joined}
 use Rattle.sql_exec.specs.declared.act.Act.{Act}
 use Rattle.sql_exec.specs.declared.act.Act.TheVariants.{Keep, Set, Take, Refuse}
 use Rattle.sql_exec.specs.declared.act.Passed.{Passed}
+use Rattle.sql_exec.specs.declared.act.ChangePlan.{ChangePlan}
+use Rattle.sql_exec.specs.declared.act.ChangePlan.TheVariants as changes
 use Rattle.sql_exec.specs.Acts.{act_of, done_count, effect, effects, is_in, is_refused, rows_in, set_or_refuse, some_refused}
-use Rattle.sql_exec.specs.Bodies.{CanWrite, Works}
+use Rattle.sql_exec.specs.Bodies.{CanWrite, OnlyForward}
 use Rattle.sql_exec.specs.Bodies as bodies
-use Rattle.sql_exec.specs.Pieces.{ComesTo, IsOfTable, LacksAt, LacksIn, ListEnds, PieceEnds, PieceSends, SendsAll, StopsAt}
+use Rattle.sql_exec.specs.Pieces.{ActsAll, ActsPiece, ComesTo, IsOfTable, LacksAt, LacksIn, ListEnds, PieceEnds, PieceSends, SendsAll, StopsAt}
 use Rattle.sql_exec.specs.Plays.{OnTable, PlaysFrom, Turns}
 use Rattle.sql_exec.specs.Sends.{SendsOnly}
 use Rattle.sql_exec.proofs.Acting.{puts, takes}
@@ -41,7 +41,7 @@ use Rattle.sql_exec.proofs.InPlaces.{Rise, above_middle, range_acted}
 use Rattle.sql_exec.proofs.PieceLaws.{between, rows_split}
 use Rattle.sql_exec.proofs.OneTable.{stays}
 use Rattle.sql_exec.proofs.Playing.{plays_since, write_since}
-use Rattle.sql_exec.proofs.Working.{works_on, works_since}
+use Rattle.sql_exec.proofs.Forward.{forward_on, forward_since}
 
 -- ---- a plan changes rows in their places
 
@@ -54,16 +54,9 @@ take_only : (b : Bool) (new : List Value) → cond b Take Keep ≡ Set new → �
 take_only true new e = absurd cc
 take_only false new e = absurd cc
 
-pub keeps_key : (defs : List TableDef) (n : ℕ) (plan : Plan) → IsOfTable defs n plan → (row new : List Value) → IsRowOf (columns_at defs n) row → act_of plan row ≡ Set new → row_key (keys_at defs n) new ≡ row_key (keys_at defs n) row
-keeps_key defs n (plans.Update p) of row new fits is = (of.2 row new fits (set_made (passes_all p.conditions row) (planned_row p.changes row) new is)).key
-keeps_key defs n (plans.Delete p) of row new fits is = absurd (take_only (passes_all p.conditions row) new is)
-keeps_key defs n (plans.Insert p) of row new fits is = absurd of
-keeps_key defs n (plans.Select p) of row new fits is = absurd of
-keeps_key defs n (plans.Totals p) of row new fits is = absurd of
-keeps_key defs n plans.Create of row new fits is = absurd of
-keeps_key defs n plans.Begin of row new fits is = absurd of
-keeps_key defs n plans.Commit of row new fits is = absurd of
-keeps_key defs n plans.Rollback of row new fits is = absurd of
+pub keeps_key : (defs : List TableDef) (n : ℕ) (plan : ChangePlan) → IsOfTable defs n plan → (row new : List Value) → IsRowOf (columns_at defs n) row → act_of plan row ≡ Set new → row_key (keys_at defs n) new ≡ row_key (keys_at defs n) row
+keeps_key defs n (changes.Update p) of row new fits is = (of.2 row new fits (set_made (passes_all p.now.conditions row) (planned_row p.now.changes row) new is)).key
+keeps_key defs n (changes.Delete p) of row new fits is = absurd (take_only (passes_all p.now.conditions row) new is)
 
 -- ---- a row that is come to is still there
 
@@ -205,17 +198,17 @@ module _ (marks : List ℕ) where
 
 -- ---- in the words of the calls
 
-module _ (defs : List TableDef) (n : ℕ) (plan : Plan) (of : IsOfTable defs n plan) (range : Range) (upto : ℕ) (list : Rows) (old mid new : List Call) (low : range.lo.number ≤ upto) (high : upto ≤ range.hi.number)
-    (told : mid ≡ Did (Part n range.lo.number upto list) ∷ old) (works : Works mid new) where
+module _ (defs : List TableDef) (n : ℕ) (plan : ChangePlan) (of : IsOfTable defs n plan) (range : Range) (upto : ℕ) (list : Rows) (old mid new : List Call) (low : range.lo.number ≤ upto) (high : upto ≤ range.hi.number)
+    (told : mid ≡ Did (Part n range.lo.number upto list) ∷ old) (forward : OnlyForward mid new) where
   abbrev marks : List ℕ
   marks = keys_at defs n
 
   pub since_piece : Since old new
-  since_piece = since_joined old mid new (subst (Since old) (sym told) (did _ _ here)) (works_since mid new works)
+  since_piece = since_joined old mid new (subst (Since old) (sym told) (did _ _ here)) (forward_since mid new forward)
 
   list_is : (first : Tables) → PlaysFrom defs first new → list ≡ rows_in marks range.lo.number (upto + 1) (table_at (tables_of first old) n).rows
   list_is first plays =
-      let was = subst (PlaysFrom defs first) told (plays_since defs first mid new (works_since mid new works) plays) in
+      let was = subst (PlaysFrom defs first) told (plays_since defs first mid new (forward_since mid new forward) plays) in
       part_says defs n first old range.lo.number upto list was ∙ between marks range.lo.number upto (table_at (tables_of first old) n).rows
 
   turned : (Ends : Rows → Rows → Type 0) (first : Tables) → Turns n Ends (tables_of first mid) (tables_of first new) → Turns n Ends (tables_of first old) (tables_of first new)
@@ -228,15 +221,15 @@ module _ (defs : List TableDef) (n : ℕ) (plan : Plan) (of : IsOfTable defs n p
       let turns = turned Ends first (body first plays) in
       record { others = turns.others; rows = more _ _ (list_is first plays) (fits_now defs n first old was) (rising_now defs n first old was) turns.rows }
 
-  pub made_on : (passed : Passed) → passed.upto.number ≡ upto → OnTable defs n (ListEnds marks (act_of plan) list (Ok (Some passed.count))) mid new → OnTable defs n (PieceEnds marks (act_of plan) range (Ok (Some passed))) old new
+  made_on : (passed : Passed) → passed.upto.number ≡ upto → OnTable defs n (ListEnds marks (act_of plan) list (Ok (Some passed.count))) mid new → OnTable defs n (PieceEnds marks (act_of plan) range (Ok (Some passed))) old new
   made_on passed at = piece_on (ListEnds marks (act_of plan) list (Ok (Some passed.count))) (PieceEnds marks (act_of plan) range (Ok (Some passed)))
       (λ rows now is all rise ends. piece_made marks (act_of plan) (IsRowOf (columns_at defs n)) (keeps_key defs n plan of) range upto rows list now low high is all rise passed at ends)
 
-  pub refused_on : OnTable defs n (ListEnds marks (act_of plan) list (Ok None)) mid new → OnTable defs n (PieceEnds marks (act_of plan) range (Ok None)) old new
+  refused_on : OnTable defs n (ListEnds marks (act_of plan) list (Ok None)) mid new → OnTable defs n (PieceEnds marks (act_of plan) range (Ok None)) old new
   refused_on = piece_on (ListEnds marks (act_of plan) list (Ok None)) (PieceEnds marks (act_of plan) range (Ok None))
       (λ rows now is all rise ends. piece_refused marks (act_of plan) (IsRowOf (columns_at defs n)) (keeps_key defs n plan of) range upto rows list now low high is all rise ends)
 
-  pub stops_on : (stop : Stop) → OnTable defs n (ListEnds marks (act_of plan) list (Err stop)) mid new → OnTable defs n (PieceEnds marks (act_of plan) range (Err stop)) old new
+  stops_on : (stop : Stop) → OnTable defs n (ListEnds marks (act_of plan) list (Err stop)) mid new → OnTable defs n (PieceEnds marks (act_of plan) range (Err stop)) old new
   stops_on stop = piece_on (ListEnds marks (act_of plan) list (Err stop)) (PieceEnds marks (act_of plan) range (Err stop))
       (λ rows now is all rise ends. piece_stops marks (act_of plan) (IsRowOf (columns_at defs n)) (keeps_key defs n plan of) range upto rows list now low high is all rise stop ends)
 
@@ -248,7 +241,7 @@ module _ (defs : List TableDef) (n : ℕ) (plan : Plan) (of : IsOfTable defs n p
   abbrev clears : List Value → List ℕ
   clears = takes marks (act_of plan)
 
-  pub made_sent : (passed : Passed) → passed.upto.number ≡ upto → SendsAll (flat_map sets list) (flat_map clears list) mid new → (first : Tables) → PlaysFrom defs first new
+  made_sent : (passed : Passed) → passed.upto.number ≡ upto → SendsAll (flat_map sets list) (flat_map clears list) mid new → (first : Tables) → PlaysFrom defs first new
       → PieceSends marks (act_of plan) range (Ok (Some passed)) (table_at (tables_of first old) n).rows old new
   made_sent passed at sends first plays =
       let rows = (table_at (tables_of first old) n).rows in
@@ -266,7 +259,7 @@ module _ (defs : List TableDef) (n : ℕ) (plan : Plan) (of : IsOfTable defs n p
     added = sends.added;
   }
 
-  pub part_sent : SendsOnly (flat_map sets list) (flat_map clears list) mid new → (first : Tables) → PlaysFrom defs first new
+  part_sent : SendsOnly (flat_map sets list) (flat_map clears list) mid new → (first : Tables) → PlaysFrom defs first new
       → SendsOnly (flat_map sets (rows_in marks range.lo.number (range.hi.number + 1) (table_at (tables_of first old) n).rows)) (flat_map clears (rows_in marks range.lo.number (range.hi.number + 1) (table_at (tables_of first old) n).rows)) old new
   part_sent sends first plays =
       let rows = (table_at (tables_of first old) n).rows in
@@ -278,6 +271,17 @@ module _ (defs : List TableDef) (n : ℕ) (plan : Plan) (of : IsOfTable defs n p
         put = wider sets (rows_in marks range.lo.number (range.hi.number + 1) rows) more (rows_put old) (rows_put new) split (subst (λ (c : List Call). InOrder (flat_map sets list) (rows_put c) (rows_put new)) told sends.put);
         taken = wider clears (rows_in marks range.lo.number (range.hi.number + 1) rows) more (keys_taken old) (keys_taken new) split (subst (λ (c : List Call). InOrder (flat_map clears list) (keys_taken c) (keys_taken new)) told sends.taken);
       }
+
+  -- ---- both
+
+  pub acts_stop : (stop : Stop) → ActsAll defs n plan list mid (Err stop) new → ActsPiece defs n plan range old (Err stop) new
+  acts_stop stop acts = record { plain = stops_on stop acts.plain; sent = part_sent acts.sent }
+
+  pub acts_refused : ActsAll defs n plan list mid (Ok None) new → ActsPiece defs n plan range old (Ok None) new
+  acts_refused acts = record { plain = refused_on acts.plain; sent = part_sent acts.sent }
+
+  pub acts_made : (passed : Passed) → passed.upto.number ≡ upto → ActsAll defs n plan list mid (Ok (Some passed.count)) new → ActsPiece defs n plan range old (Ok (Some passed)) new
+  acts_made passed at acts = record { plain = made_on passed at acts.plain; sent = made_sent passed at acts.sent }
 
 -- ---- no piece was given
 
@@ -293,12 +297,17 @@ chunk_stop ks act n asked range rows (stops.Fault file) may = tt
 chunk_stop ks act n asked range rows (stops.Spent limit) may = tt
 chunk_stop ks act n asked range rows stops.OutOfMemory may = tt
 
-pub no_piece : (defs : List TableDef) (n : ℕ) (act : List Value → Act) (asked range : Range) (stop : Stop) (old new : List Call) → new ≡ Stopped (AskChunk n asked) stop ∷ old → MayGive (AskChunk n asked) stop → OnTable defs n (PieceEnds (keys_at defs n) act range (Err stop)) old new
-no_piece defs n act asked range stop old new told may first plays =
-    stays n (PieceEnds (keys_at defs n) act range (Err stop)) (tables_of first old) (tables_of first new) (ap (tables_of first) told) (chunk_stop (keys_at defs n) act n asked range (table_at (tables_of first old) n).rows stop may)
+pub no_piece : (defs : List TableDef) (n : ℕ) (plan : ChangePlan) (range : Range) (stop : Stop) (old new : List Call) → new ≡ Stopped (AskChunk n range) stop ∷ old → MayGive (AskChunk n range) stop → ActsPiece defs n plan range old (Err stop) new
+no_piece defs n plan range stop old new told may = record {
+  plain = λ first plays. stays n (PieceEnds (keys_at defs n) (act_of plan) range (Err stop)) (tables_of first old) (tables_of first new) (ap (tables_of first) told) (chunk_stop (keys_at defs n) (act_of plan) n range range (table_at (tables_of first old) n).rows stop may);
+  sent = λ first plays. record {
+    put = record { sent = []; rest = _; front = refl; added = ap rows_put told };
+    taken = record { sent = []; rest = _; front = refl; added = ap keys_taken told };
+  };
+}
 
-pub can_still : (calls new : List Call) (n lo hi : ℕ) → Works calls new → CanWrite calls n lo hi → IsTrue (is_running new) → CanWrite new n lo hi
-can_still calls new n lo hi works can runs = (runs, write_since calls new n lo hi (works_since calls new works) can.1)
+pub can_still : (calls new : List Call) (n lo hi : ℕ) → OnlyForward calls new → CanWrite calls n lo hi → IsTrue (is_running new) → CanWrite new n lo hi
+can_still calls new n lo hi forward can runs = (runs, write_since calls new n lo hi (forward_since calls new forward) can.1)
 
-pub works_piece : (n lo upto : ℕ) (list : Rows) (old mid new : List Call) → mid ≡ Did (Part n lo upto list) ∷ old → Works mid new → Works old new
-works_piece n lo upto list old mid new told works = works_on old mid new (subst (Works old) (sym told) (bodies.did _ _ refl bodies.here)) works
+pub forward_piece : (n lo upto : ℕ) (list : Rows) (old mid new : List Call) → mid ≡ Did (Part n lo upto list) ∷ old → OnlyForward mid new → OnlyForward old new
+forward_piece n lo upto list old mid new told forward = forward_on old mid new (subst (OnlyForward old) (sym told) (bodies.did _ _ refl bodies.here)) forward

@@ -34,7 +34,7 @@ use Rattle.plain_model.specs.Blocks.{AnswersUnless}
 use Rattle.plain_model.specs.Calls.{AskLock, Asked, Call, Locked, MayGiveLack, Stopped}
 use Rattle.plain_model.specs.CallPlays.{tables_of}
 use Rattle.plain_model.specs.Lacks as lacks
-use Rattle.plain_model.specs.Lacks.{AsksFor, IsReached, NeedsLock}
+use Rattle.plain_model.specs.Lacks.{AsksFor, NeedsLock}
 use Rattle.plain_model.specs.Meaning.{acts, acts_on, count_of, inserts, limited, means, table_at, totals_reply}
 use Rattle.plain_model.specs.PlanMeaning.{passes_all, plan_acts, planned_row, planned_total, planned_update, put_in_order}
 use Rattle.plain_model.specs.Refusals.{refusal_of_check}
@@ -42,14 +42,15 @@ use Rattle.plain_model.specs.Runs.{Since}
 use Rattle.plain_model.specs.Values.{changed_row, is_kept}
 use Rattle.plain_model.proofs.Acting.{means_acts}
 use Rattle.plain_model.proofs.PlanLaws.{plan_means}
+use Rattle.sql_exec.specs.declared.act.Act.{Act}
 use Rattle.sql_exec.specs.declared.act.Act.TheVariants.{Keep, Take}
-use Rattle.sql_exec.specs.Acts.{put_by, set_or_refuse, taken_by}
+use Rattle.sql_exec.specs.Acts.{delete_act, put_by, set_or_refuse, taken_by, update_act}
 use Rattle.sql_exec.specs.Bodies.{AddsRow, ChangesRow, Lacks, PlanEnds, PlanLacks, RepliesWithoutKeys}
 use Rattle.sql_exec.specs.Fits.{FitsTables, IsAbout, IsNamed, NamesKept}
 use Rattle.sql_exec.specs.Means.{lock_of, name_of}
 use Rattle.sql_exec.specs.Plays.{PlaysFrom, Turns}
 use Rattle.sql_exec.specs.Selects.{in_columns}
-use Rattle.sql_exec.specs.Sends.{ChangeSends, PlanSends, Sends, SendsFor, SendsNothing, SendsOfRows, SendsOnly, keys_cleared, plan_sets, plan_takes, rows_made, rows_set}
+use Rattle.sql_exec.specs.Sends.{PlanSends, Sends, SendsFor, SendsNothing, SendsOfRows, SendsOnly, keys_cleared, rows_made, rows_set}
 use Rattle.sql_exec.proofs.Calling.{columns_def, def_now, fits_now, schema_now}
 use Rattle.sql_exec.proofs.Kept.{all_more, has_key}
 use Rattle.sql_exec.proofs.Naming.{changed_planned, fault_at, kept_passes}
@@ -168,9 +169,26 @@ some_range : (table : ℕ) (range : Option Range) (name : LockName) → name_of 
 some_range table None name e = absurd (not_some name e)
 some_range table (Some range) name e = search rules
 
-name_table : (table : ℕ) (range : Option Range) (name : LockName) → name_of table range ≡ Some name → name.table ≡ table
+pub name_table : (table : ℕ) (range : Option Range) (name : LockName) → name_of table range ≡ Some name → name.table ≡ table
 name_table table None name e = absurd (not_some name e)
 name_table table (Some range) name e = ap (λ (m : LockName). m.table) (sym (some_is _ name e))
+
+-- ---- what a plan sets and takes away
+
+abbrev pub act_for : Plan → List Value → Act
+act_for (plans.Update p) = update_act p
+act_for (plans.Delete p) = delete_act p
+act_for plan = λ row. Keep
+
+abbrev pub plan_sets : Plan → Rows → Rows
+plan_sets (plans.Insert p) rows = p.rows
+plan_sets plan rows = flat_map (λ row. put_by (act_for plan row)) rows
+
+abbrev pub plan_takes : List ℕ → Plan → Rows → List ℕ
+plan_takes marks plan rows = flat_map (λ row. taken_by marks (act_for plan row) row) rows
+
+abbrev pub PlanChanges : List TableDef → ℕ → Plan → List Call → List Call → Type 0
+PlanChanges defs n plan old new = (first : Tables) → PlaysFrom defs first new → SendsOnly (plan_sets plan (table_at (tables_of first old) n).rows) (plan_takes (table_at (tables_of first old) n).def.keys plan (table_at (tables_of first old) n).rows) old new
 
 -- ---- a statement that has no fault in its table
 
@@ -450,11 +468,11 @@ none_behind name mode start new sends = record { put = sends.put; taken = sends.
 module _ (defs : List TableDef) (statement : Statement) (fitting : misfit defs statement ≡ None) (name : LockName) (mode : Mode) (start new : List Call) (since : Since (Locked name mode ∷ start) new)
     (named : lock_of (plan_of defs statement) ≡ Some name) where
   -- wherever the calls are those of some tables
-  rows_sent : ChangeSends defs name.table (plan_of defs statement) (Locked name mode ∷ start) new → SendsOfRows defs statement start new
+  rows_sent : PlanChanges defs name.table (plan_of defs statement) (Locked name mode ∷ start) new → SendsOfRows defs statement start new
   rows_sent sends first plays =
       let was = behind_lock defs first name mode start (plays_since defs first (Locked name mode ∷ start) new since plays) in
       let is = lock_table defs statement fitting first start was name named in
-      plan_sent defs statement fitting first start was new (sends_behind name mode start new _ _ (subst (λ (n : ℕ). ChangeSends defs n (plan_of defs statement) (Locked name mode ∷ start) new) is sends first plays))
+      plan_sent defs statement fitting first start was new (sends_behind name mode start new _ _ (subst (λ (n : ℕ). PlanChanges defs n (plan_of defs statement) (Locked name mode ∷ start) new) is sends first plays))
 
 -- the calls behind the lock send what the statement says
 pub locked_sent : (defs : List TableDef) (statement : Statement) → misfit defs statement ≡ None → (name : LockName) (mode : Mode) (start new : List Call) → Since (Locked name mode ∷ start) new

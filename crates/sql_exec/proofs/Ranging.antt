@@ -12,7 +12,6 @@ use Rattle.row_types.specs.Slot.{IsRowOf}
 use Rattle.row_types.specs.Tables.{Tables}
 use Rattle.key_space.specs.declared.range.Range.{Range}
 use Rattle.key_space.specs.Plays.{Rows}
-use Rattle.sql_check.specs.declared.plan.Plan.{Plan}
 use Rattle.plain_model.specs.declared.stop.Stop.{Stop}
 use Rattle.plain_model.specs.declared.stop.Stop.TheVariants as stops
 use Rattle.plain_model.specs.declared.stop.Resource.TheVariants.{Pages, Nodes, Txn, Locks, LogFull, Busy}
@@ -23,6 +22,7 @@ use Rattle.plain_model.specs.Runs.{InOrder, Since, keys_taken, pushed, rows_put}
 use Rattle.sql_exec.specs.declared.act.Act.{Act}
 use Rattle.sql_exec.specs.declared.act.Act.TheVariants.{Set}
 use Rattle.sql_exec.specs.declared.act.Passed.{Passed}
+use Rattle.sql_exec.specs.declared.act.ChangePlan.{ChangePlan}
 use Rattle.sql_exec.specs.Acts.{act_of, acted_in, done_count, is_refused, rows_in, some_refused}
 use Rattle.sql_exec.specs.Bodies.{ActedSoFar}
 use Rattle.sql_exec.specs.Pieces.{ComesTo, IsOfTable, PieceEnds, PieceSends, SendsAll}
@@ -73,7 +73,7 @@ StopEnds marks act lo hi (stops.Refused (Txn used limit)) r s = ComesIn marks ac
 StopEnds marks act lo hi (stops.Refused resource) r s = ⊥
 StopEnds marks act lo hi stop r s = ⊤
 
-module _ (defs : List TableDef) (n : ℕ) (plan : Plan) (of : IsOfTable defs n plan) (lo mid hi count : ℕ) (start old new : List Call) (low : lo ≤ mid) (earlier : Since start old) (since : Since old new) where
+module _ (defs : List TableDef) (n : ℕ) (plan : ChangePlan) (of : IsOfTable defs n plan) (lo mid hi count : ℕ) (start old new : List Call) (low : lo ≤ mid) (earlier : Since start old) (since : Since old new) where
   abbrev marks : List ℕ
   marks = keys_at defs n
 

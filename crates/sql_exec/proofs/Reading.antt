@@ -1,5 +1,5 @@
 -- What is read of a range, piece by piece.
-use Rattle.std.proofs.Common.{◌≡◌, inl, inr, ℕ, ℤ, zero, suc, ◌+◌, ◌^◌, ◌≤◌, map, reverse, true, false, List, [], ◌∷◌, ◌++◌, length, Option, None, Some, IsTrue, Result, Ok, Err, IfOk, refl, sym, ap, subst, ◌∙◌, arith}
+use Rattle.std.proofs.Common.{◌≡◌, inl, inr, ℕ, ℤ, zero, suc, ◌+◌, ◌^◌, ◌≤◌, map, reverse, true, false, List, [], ◌∷◌, ◌++◌, length, Option, None, Some, IsTrue, Result, Err, refl, sym, ap, subst, ◌∙◌, arith}
 use Rattle.row_types.specs.declared.definition.TableDef.{TableDef}
 use Rattle.row_types.specs.declared.row.Value.{Value}
 use Rattle.row_types.specs.Schema.{columns_at, keys_at}
@@ -32,13 +32,14 @@ use Rattle.plain_model.specs.Meaning.{limited, table_at, totals_reply}
 use Rattle.plain_model.specs.Runs.{Since, keys_taken, rows_put}
 use Rattle.plain_model.specs.Runs as runs
 use Rattle.sql_exec.specs.Acts.{is_in, rows_in}
-use Rattle.sql_exec.specs.Bodies.{CanRead, PlanEnds, Works, goes_back, here, did, stopped}
+use Rattle.sql_exec.specs.Bodies.{CanRead, PlanEnds, OnlyForward, goes_back, here, did, stopped}
 use Rattle.sql_exec.specs.Means.{IsNoLack, Stops}
+use Rattle.sql_exec.specs.Parts.{PlanReplies}
 use Rattle.sql_exec.specs.Plays.{OnTable, PlaysFrom, Turns}
 use Rattle.sql_exec.specs.Selects.{Found, FoundInOrder, GoesOver, in_columns, shown_of, sums_of}
 use Rattle.sql_exec.specs.Sends.{SendsNothing}
 use Rattle.sql_exec.proofs.Calling.{part_says, schema_now}
-use Rattle.sql_exec.proofs.OneTable.{on_weaker, stays}
+use Rattle.sql_exec.proofs.OneTable.{stays}
 use Rattle.sql_exec.proofs.PieceLaws.{between, rows_split}
 use Rattle.sql_exec.proofs.Playing.{plays_since, read_since}
 use Rattle.sql_exec.proofs.Ranging.{Ordered, ordered_at}
@@ -61,15 +62,15 @@ chunk_kind n range stops.OutOfMemory may = tt
 pub chunk_stops : (n : ℕ) (range : Range) (stop : Stop) (old new : List Call) → IsTrue (is_running old) → new ≡ Stopped (AskChunk n range) stop ∷ old → MayGive (AskChunk n range) stop → Stops new stop
 chunk_stops n range stop old new runs told may = record { cause = inr (record { asked = AskChunk n range; before = old; last = told; running = runs }); kind = chunk_kind n range stop may }
 
-pub stopped_works : (n : ℕ) (range : Range) (stop : Stop) (start old new : List Call) → Works start old → new ≡ Stopped (AskChunk n range) stop ∷ old → Works start new
-stopped_works n range stop start old new works told = subst (Works start) (sym told) (stopped _ _ _ refl works)
+pub stopped_forward : (n : ℕ) (range : Range) (stop : Stop) (start old new : List Call) → OnlyForward start old → new ≡ Stopped (AskChunk n range) stop ∷ old → OnlyForward start new
+stopped_forward n range stop start old new forward told = subst (OnlyForward start) (sym told) (stopped _ _ _ refl forward)
 
 pub stopped_nothing : (n : ℕ) (range : Range) (stop : Stop) (start old new : List Call) → SendsNothing start old → new ≡ Stopped (AskChunk n range) stop ∷ old → SendsNothing start new
 stopped_nothing n range stop start old new sent told = record { put = ap rows_put told ∙ sent.put; taken = ap keys_taken told ∙ sent.taken }
 
 module _ (n mid upto : ℕ) (list : Rows) (start old new : List Call) (told : new ≡ Did (Part n mid upto list) ∷ old) where
-  pub read_works : Works start old → Works start new
-  read_works works = subst (Works start) (sym told) (did _ _ refl works)
+  pub read_forward : OnlyForward start old → OnlyForward start new
+  read_forward forward = subst (OnlyForward start) (sym told) (did _ _ refl forward)
 
   pub read_nothing : SendsNothing start old → SendsNothing start new
   read_nothing sent = record { put = ap rows_put told ∙ sent.put; taken = ap keys_taken told ∙ sent.taken }
@@ -156,41 +157,37 @@ did_takes (Put table row) calls = omega arith
 did_takes (Del table key answer) calls = omega arith
 did_takes (UndoTo count) calls = omega arith
 
-puts_grow : (old new : List Call) → Works old new → length (rows_put old) ≤ length (rows_put new)
+puts_grow : (old new : List Call) → OnlyForward old new → length (rows_put old) ≤ length (rows_put new)
 puts_grow old _ here = omega arith
-puts_grow old _ (did op calls forward more) = omega (arith, did_puts op calls, puts_grow old calls more)
+puts_grow old _ (did op calls no_undo more) = omega (arith, did_puts op calls, puts_grow old calls more)
 puts_grow old _ (stopped asked stop calls row_call more) = omega (arith, stop_puts asked stop calls, puts_grow old calls more)
 
-takes_grow : (old new : List Call) → Works old new → length (keys_taken old) ≤ length (keys_taken new)
+takes_grow : (old new : List Call) → OnlyForward old new → length (keys_taken old) ≤ length (keys_taken new)
 takes_grow old _ here = omega arith
-takes_grow old _ (did op calls forward more) = omega (arith, did_takes op calls, takes_grow old calls more)
+takes_grow old _ (did op calls no_undo more) = omega (arith, did_takes op calls, takes_grow old calls more)
 takes_grow old _ (stopped asked stop calls row_call more) = omega (arith, stop_takes asked stop calls, takes_grow old calls more)
 
-op_same : (first : Tables) (old calls : List Call) (op : RowOp) → goes_back op ≡ false → Works old calls → length (rows_put (Did op ∷ calls)) ≤ length (rows_put old) → length (keys_taken (Did op ∷ calls)) ≤ length (keys_taken old) → tables_of first (Did op ∷ calls) ≡ tables_of first calls
-op_same first old calls (Get table key answer) forward works puts takes = refl
-op_same first old calls (Part table from upto answer) forward works puts takes = refl
-op_same first old calls (Put table row) forward works puts takes = absurd (omega (arith, puts, puts_grow old calls works))
-op_same first old calls (Del table key answer) forward works puts takes = absurd (omega (arith, takes, takes_grow old calls works))
-op_same first old calls (UndoTo count) forward works puts takes = absurd cc
+op_same : (first : Tables) (old calls : List Call) (op : RowOp) → goes_back op ≡ false → OnlyForward old calls → length (rows_put (Did op ∷ calls)) ≤ length (rows_put old) → length (keys_taken (Did op ∷ calls)) ≤ length (keys_taken old) → tables_of first (Did op ∷ calls) ≡ tables_of first calls
+op_same first old calls (Get table key answer) no_undo forward puts takes = refl
+op_same first old calls (Part table from upto answer) no_undo forward puts takes = refl
+op_same first old calls (Put table row) no_undo forward puts takes = absurd (omega (arith, puts, puts_grow old calls forward))
+op_same first old calls (Del table key answer) no_undo forward puts takes = absurd (omega (arith, takes, takes_grow old calls forward))
+op_same first old calls (UndoTo count) no_undo forward puts takes = absurd cc
 
-read_same : (first : Tables) (old new : List Call) → Works old new → length (rows_put new) ≤ length (rows_put old) → length (keys_taken new) ≤ length (keys_taken old) → tables_of first new ≡ tables_of first old
+read_same : (first : Tables) (old new : List Call) → OnlyForward old new → length (rows_put new) ≤ length (rows_put old) → length (keys_taken new) ≤ length (keys_taken old) → tables_of first new ≡ tables_of first old
 read_same first old _ here puts takes = refl
-read_same first old _ (did op calls forward more) puts takes =
-    op_same first old calls op forward more puts takes ∙ read_same first old calls more (omega (arith, puts, did_puts op calls)) (omega (arith, takes, did_takes op calls))
+read_same first old _ (did op calls no_undo more) puts takes =
+    op_same first old calls op no_undo more puts takes ∙ read_same first old calls more (omega (arith, puts, did_puts op calls)) (omega (arith, takes, did_takes op calls))
 read_same first old _ (stopped asked stop calls row_call more) puts takes = read_same first old calls more (omega (arith, puts, stop_puts asked stop calls)) (omega (arith, takes, stop_takes asked stop calls))
 
 -- a stop in the middle of what only reads
-pub reads_stop : (defs : List TableDef) (n : ℕ) (Ends : Rows → Rows → Type 0) (old new : List Call) → Works old new → SendsNothing old new → ((r : Rows) → Ends r r) → OnTable defs n Ends old new
-reads_stop defs n Ends old new works sent any first plays =
-    let same = read_same first old new works (omega (arith, ap length sent.put)) (omega (arith, ap length sent.taken)) in
+pub reads_stop : (defs : List TableDef) (n : ℕ) (Ends : Rows → Rows → Type 0) (old new : List Call) → OnlyForward old new → SendsNothing old new → ((r : Rows) → Ends r r) → OnTable defs n Ends old new
+reads_stop defs n Ends old new forward sent any first plays =
+    let same = read_same first old new forward (omega (arith, ap length sent.put)) (omega (arith, ap length sent.taken)) in
     stays n Ends (tables_of first old) (tables_of first new) same (any (table_at (tables_of first old) n).rows)
 
 pub err_ends : (def : TableDef) (plan : Plan) (stop : Stop) (result : Result Reply Stop) (r : Rows) → result ≡ Err stop → PlanEnds def plan result r r
 err_ends def plan stop result r is = subst (λ (x : Result Reply Stop). PlanEnds def plan x r r) (sym is) tt
-
-pub ok_weaker : {A : Type 0} (result : Result A Stop) (P Q : A → Type 0) → ((x : A) → P x → Q x) → IfOk result P → IfOk result Q
-ok_weaker (Ok x) P Q more is = more x is
-ok_weaker (Err stop) P Q more is = tt
 
 map_reverse : {A B : Type 0} (f : A → B) (xs : List A) → map f (reverse xs) ≡ reverse (map f xs)
 map_reverse f [] = refl
@@ -216,7 +213,7 @@ module _ (defs : List TableDef) (n : ℕ) (range : Range) (tests : List Test) (k
   pub passing_all : (first : Tables) → PlaysFrom defs first new → filter (passes_all tests) (rows_in (keys_at defs n) range.lo.number (range.hi.number + 1) (table_at (tables_of first start) n).rows) ≡ filter (passes_all tests) (table_at (tables_of first start) n).rows
   passing_all first plays = kept_all (keys_at defs n) tests range.lo.number (range.hi.number + 1) (table_at (tables_of first start) n).rows (fails_at first start (plays_since defs first start new since plays))
 
-module _ (defs : List TableDef) (p : SelectPlan) (range : Range) (start new : List Call) where
+module _ (defs : List TableDef) (p : SelectPlan) (range : Range) where
   abbrev shown_row : List Value → List Value
   shown_row = in_columns p.columns
 
@@ -226,39 +223,32 @@ module _ (defs : List TableDef) (p : SelectPlan) (range : Range) (start new : Li
   abbrev kept_of : Rows → Rows
   kept_of r = filter (passes_all p.conditions) (rows_in keys range.lo.number (range.hi.number + 1) r)
 
-  pub rising_order : (found : Rows) → p.is_falling ≡ false → OnTable defs p.table (Found keys range p p.limit found) start new → OnTable defs p.table (FoundInOrder keys range p found) start new
-  rising_order found rising body =
-      on_weaker defs p.table (Found keys range p p.limit found) (FoundInOrder keys range p found) start new
-      (λ r s f. (f.0 ∙ ap (λ b. map shown_row (limited p.limit (put_in_order b (kept_of r)))) (sym rising), f.1)) body
+  pub rising_order : (found rows : Rows) → p.is_falling ≡ false → Found keys range p p.limit found rows → FoundInOrder keys range p found rows
+  rising_order found rows rising is = is ∙ ap (λ b. map shown_row (limited p.limit (put_in_order b (kept_of rows)))) (sym rising)
 
-  pub falling_order : (found said : Rows) → p.is_falling ≡ true → p.limit ≡ None → said ≡ reverse found → OnTable defs p.table (Found keys range p None found) start new → OnTable defs p.table (FoundInOrder keys range p said) start new
-  falling_order found said falling none is body =
-      on_weaker defs p.table (Found keys range p None found) (FoundInOrder keys range p said) start new
-      (λ r s f. (
-        is ∙ ap reverse f.0 ∙ sym (map_reverse shown_row (kept_of r)) ∙ ap (λ b. map shown_row (put_in_order b (kept_of r))) (sym falling)
-            ∙ ap (λ o. map shown_row (limited o (put_in_order p.is_falling (kept_of r)))) (sym none),
-        f.1,
-      )) body
+  pub falling_order : (found said rows : Rows) → p.is_falling ≡ true → p.limit ≡ None → said ≡ reverse found → Found keys range p None found rows → FoundInOrder keys range p said rows
+  falling_order found said rows falling none turned is =
+      turned ∙ ap reverse is ∙ sym (map_reverse shown_row (kept_of rows)) ∙ ap (λ b. map shown_row (put_in_order b (kept_of rows))) (sym falling) ∙ ap (λ o. map shown_row (limited o (put_in_order p.is_falling (kept_of rows)))) (sym none)
 
   -- what was found is what the plan shows
-  pub select_ends : NamesKept defs p.table (Some range) p.conditions → Since start new → (found : Rows) → OnTable defs p.table (FoundInOrder keys range p found) start new → OnTable defs p.table (PlanEnds (def_at defs p.table) (Select p) (Ok (replies.Rows found))) start new
-  select_ends kept since found body first plays =
+  pub select_ends : (start new : List Call) → NamesKept defs p.table (Some range) p.conditions → Since start new → (found : Rows) → OnTable defs p.table (λ r s. FoundInOrder keys range p found r × (s ≡ r)) start new → OnTable defs p.table (λ r s. PlanReplies (def_at defs p.table) (Select p) (replies.Rows found) r × (s ≡ r)) start new
+  select_ends start new kept since found body first plays =
       let turns = body first plays in
       let rows = (table_at (tables_of first start) p.table).rows in
       let all = passing_all defs p.table range p.conditions kept start new since first plays in
       let shown : found ≡ map shown_row (limited p.limit (put_in_order p.is_falling (filter (passes_all p.conditions) rows))) = turns.rows.0 ∙ ap (λ (l : Rows). map shown_row (limited p.limit (put_in_order p.is_falling l))) all in
-      record { others = turns.others; rows = inl (ap (λ (l : Rows). (replies.Rows l, rows)) (sym shown) ∙ ap (λ (l : Rows). (replies.Rows found, l)) (sym turns.rows.1)) }
+      record { others = turns.others; rows = (ap (λ (l : Rows). (replies.Rows l, rows)) (sym shown), turns.rows.1) }
 
 -- ---- totals
 
 pub totals_end : (defs : List TableDef) (p : TotalsPlan) (range : Range) → NamesKept defs p.table (Some range) p.conditions → (start new : List Call) → Since start new → (totals : List ℤ) (reply : Reply) → reply ≡ totals_reply totals
-    → OnTable defs p.table (λ r s. (totals ≡ sums_of p (rows_in (keys_at defs p.table) range.lo.number (range.hi.number + 1) r)) × (s ≡ r)) start new → OnTable defs p.table (PlanEnds (def_at defs p.table) (Totals p) (Ok reply)) start new
+    → OnTable defs p.table (λ r s. (totals ≡ sums_of p (rows_in (keys_at defs p.table) range.lo.number (range.hi.number + 1) r)) × (s ≡ r)) start new → OnTable defs p.table (λ r s. PlanReplies (def_at defs p.table) (Totals p) reply r × (s ≡ r)) start new
 totals_end defs p range kept start new since totals reply said body first plays =
     let turns = body first plays in
     let rows = (table_at (tables_of first start) p.table).rows in
     let all = passing_all defs p.table range p.conditions kept start new since first plays in
     let same : totals ≡ map (planned_total (filter (passes_all p.conditions) rows)) p.totals = turns.rows.0 ∙ ap (λ (l : Rows). map (planned_total l) p.totals) all in
-    record { others = turns.others; rows = inl (ap (λ (l : List ℤ). (totals_reply l, rows)) (sym same) ∙ ap (λ (r : Reply). (r, rows)) (sym said) ∙ ap (λ (l : Rows). (reply, l)) (sym turns.rows.1)) }
+    record { others = turns.others; rows = (ap (λ (l : List ℤ). (totals_reply l, rows)) (sym same) ∙ ap (λ (r : Reply). (r, rows)) (sym said), turns.rows.1) }
 
 -- no sum leaves 128 bits
 pub never_goes_over : (defs : List TableDef) (n lo mid upto : ℕ) (list : Rows) (start old new : List Call) → new ≡ Did (Part n mid upto list) ∷ old → lo ≤ mid → mid ≤ upto → Since start old → (p : TotalsPlan) (totals : List ℤ) → upto + 1 ≤ 2 ^ 64

@@ -1,6 +1,7 @@
 -- Every statement that changes rows ends in the same way.
 use Rattle.std.proofs.Common.{◌≡◌, inl, inr, ℕ, List, ◌∷◌, Result, Ok, Err, refl, sym, ap, subst, ◌∙◌}
 use Rattle.row_types.specs.declared.definition.TableDef.{TableDef}
+use Rattle.row_types.specs.declared.row.Value.{Value}
 use Rattle.row_types.specs.Tables.{Tables}
 use Rattle.key_space.specs.Plays.{Rows}
 use Rattle.sql_check.specs.declared.plan.Plan.{Plan}
@@ -14,6 +15,7 @@ use Rattle.plain_model.specs.Calls.{AskMark, AskUndoTo, Call, Stopped, MayGive, 
 use Rattle.plain_model.specs.CallPlays.{tables_of}
 use Rattle.plain_model.specs.Meaning.{table_at}
 use Rattle.plain_model.specs.Runs.{Since, here, did, keys_taken, rows_put, stopped}
+use Rattle.sql_exec.specs.declared.act.Act.{Act}
 use Rattle.sql_exec.specs.declared.act.Changes.{Changes}
 use Rattle.sql_exec.specs.declared.act.Changes.TheVariants.{Made, Duplicate, OutOfRange}
 use Rattle.sql_exec.specs.Bodies.{ChangesEnd, IsSettled, IsUndone, PlanEnds}
@@ -112,8 +114,8 @@ settled_only rows keys mark ended old mid result new is sends =
       taken = record { sent = sends.taken.sent; rest = sends.taken.rest; front = sends.taken.front; added = same.1 ∙ sends.taken.added };
     }
 
-pub change_sent : (defs : List TableDef) (n : ℕ) (plan : Plan) (mark : ℕ) (ended : Result Changes Stop) (old mid : List Call) (result : Result Reply Stop) (new : List Call) → IsSettled mark ended mid result new → ChangeSends defs n plan old mid → ChangeSends defs n plan old new
-change_sent defs n plan mark ended old mid result new is body first plays =
+pub change_sent : (defs : List TableDef) (n : ℕ) (act : List Value → Act) (mark : ℕ) (ended : Result Changes Stop) (old mid : List Call) (result : Result Reply Stop) (new : List Call) → IsSettled mark ended mid result new → ChangeSends defs n act old mid → ChangeSends defs n act old new
+change_sent defs n act mark ended old mid result new is body first plays =
     settled_only _ _ mark ended old mid result new is (body first (plays_since defs first mid new (settled_since mark ended mid result new is) plays))
 
 -- a mark that isn't given ends the statement

@@ -21,12 +21,12 @@ use Rattle.sql_exec.specs.Acts.{effect, effects, is_done, is_refused, some_refus
 use Rattle.sql_exec.specs.Pieces.{ActsOne, DidAct, LacksAt, ListEnds, SendsAll, StoppedAct, StopsAt}
 use Rattle.sql_exec.specs.Plays.{LacksPlay, OnTable, PlaysFrom, Turns}
 use Rattle.sql_exec.specs.Sends.{SendsOnly}
-use Rattle.sql_exec.proofs.Acting.{puts, takes, acts_works, bad_here, effects_more, good_on, sends_more, sends_part, stopped_sends, stopped_works}
+use Rattle.sql_exec.proofs.Acting.{puts, takes, acts_forward, bad_here, effects_more, good_on, sends_more, sends_part, stopped_sends, stopped_forward}
 use Rattle.sql_exec.proofs.Calling.{del_turns, keys_now, put_turns}
 use Rattle.sql_exec.proofs.Fronts.{split_at}
 use Rattle.sql_exec.proofs.OneTable.{fact_at, on_after, on_weaker, stays}
 use Rattle.sql_exec.proofs.Playing.{plays_since}
-use Rattle.sql_exec.proofs.Working.{works_since}
+use Rattle.sql_exec.proofs.Forward.{forward_since}
 
 module _ (defs : List TableDef) (n : ℕ) where
   did_turns : (a : Act) (row : List Value) (first : Tables) (old new : List Call) → DidAct (keys_at defs n) n a row old new → PlaysFrom defs first new → Turns n (λ r s. s ≡ effect (keys_at defs n) a row r) (tables_of first old) (tables_of first new)
@@ -101,13 +101,13 @@ module _ (defs : List TableDef) (n : ℕ) (act : List Value → Act) (list : Row
 
   passed_on : (stop : Stop) → ((r s : Rows) → ListEnds (keys_at defs n) act list (Err stop) r s) → ActsOne (keys_at defs n) n (act row) row old (Err stop) new → OnTable defs n So_far start old → OnTable defs n (ListEnds (keys_at defs n) act list (Err stop)) start new
   passed_on stop any is so_far first plays =
-      let since = works_since old new (acts_works (keys_at defs n) n (act row) row old (Err stop) new is) in
+      let since = forward_since old new (acts_forward (keys_at defs n) n (act row) row old (Err stop) new is) in
       let before = so_far first (plays_since defs first old new since plays) in
       subst (Turns n (ListEnds (keys_at defs n) act list (Err stop)) (tables_of first start)) (sym (ended_same (keys_at defs n) n (act row) row stop old new first is)) (record { others = before.others; rows = any _ _ })
 
   list_lacks : (resource : Resource) → StoppedAct (keys_at defs n) n (act row) row (stops.Refused resource) old new → OnTable defs n So_far start old → some_refused act (take i list) ≡ false → OnTable defs n (StopsAt (keys_at defs n) act list resource) start new
   list_lacks resource is so_far good first plays =
-      let since = works_since old new (stopped_works (keys_at defs n) n (act row) row (stops.Refused resource) old new is) in
+      let since = forward_since old new (stopped_forward (keys_at defs n) n (act row) row (stops.Refused resource) old new is) in
       let was = plays_since defs first old new since plays in
       let before = so_far first was in
       let done = stopped_done (keys_at defs n) n (act row) row (stops.Refused resource) old new is in

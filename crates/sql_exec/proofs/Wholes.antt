@@ -15,7 +15,6 @@ use Rattle.row_types.proofs.SchemaLaws.{table_of_schema}
 use Rattle.key_space.specs.declared.range.Range.{Range}
 use Rattle.key_space.specs.Plays.{Rows}
 use Rattle.sql_check.specs.Columns.{def_at}
-use Rattle.sql_check.specs.declared.plan.Plan.{Plan}
 use Rattle.sql_check.specs.declared.plan.Plan.TheVariants as plans
 use Rattle.sql_check.specs.declared.plan.Test.{Test}
 use Rattle.sql_check.specs.declared.plan.UpdatePlan.{UpdatePlan}
@@ -32,12 +31,14 @@ use Rattle.plain_model.specs.Runs.{Since}
 use Rattle.sql_exec.specs.declared.act.Act.{Act}
 use Rattle.sql_exec.specs.declared.act.Act.TheVariants.{Keep, Take}
 use Rattle.sql_exec.specs.declared.act.Changes.TheVariants.{Made, OutOfRange}
-use Rattle.sql_exec.specs.Acts.{act_of, done_count, is_done, is_in, is_refused, left_of, put_by, rows_in, set_or_refuse, some_refused, taken_by}
+use Rattle.sql_exec.specs.declared.act.ChangePlan.{ChangePlan}
+use Rattle.sql_exec.specs.declared.act.ChangePlan.TheVariants as changes
+use Rattle.sql_exec.specs.Acts.{act_of, as_plan, delete_act, done_count, is_done, is_in, is_refused, left_of, put_by, rows_in, set_or_refuse, some_refused, taken_by, update_act}
 use Rattle.sql_exec.specs.Bodies.{ActedSoFar, ChangesEnd, ChangesRow}
 use Rattle.sql_exec.specs.Fits.{NamesKept, tests_of}
 use Rattle.sql_exec.specs.Pieces.{ComesTo, IsOfTable, SendsAll}
 use Rattle.sql_exec.specs.Plays.{OnTable, PlaysFrom}
-use Rattle.sql_exec.specs.Sends.{ChangeSends, SendsOnly, plan_sets, plan_takes}
+use Rattle.sql_exec.specs.Sends.{ChangeSends, SendsOnly}
 use Rattle.sql_exec.proofs.Acting.{puts, sends_front, takes}
 use Rattle.sql_exec.proofs.Calling.{keys_now, schema_now, tables_now}
 use Rattle.sql_exec.proofs.PieceLaws.{KeepsOutside, acted_all, map_all, some_all, tests_all}
@@ -89,18 +90,11 @@ module _ (defs : List TableDef) (n : ℕ) (range : Range) (tests : List Test) (k
 
 -- ---- what a plan does with rows
 
-pub act_outside : (plan : Plan) (row : List Value) → passes_all (tests_of plan) row ≡ false → act_of plan row ≡ Keep
-act_outside (plans.Update p) row e = rw e refl
-act_outside (plans.Delete p) row e = rw e refl
-act_outside (plans.Insert p) row e = refl
-act_outside (plans.Select p) row e = refl
-act_outside (plans.Totals p) row e = refl
-act_outside plans.Create row e = refl
-act_outside plans.Begin row e = refl
-act_outside plans.Commit row e = refl
-act_outside plans.Rollback row e = refl
+pub act_outside : (plan : ChangePlan) (row : List Value) → passes_all (tests_of (as_plan plan)) row ≡ false → act_of plan row ≡ Keep
+act_outside (changes.Update p) row e = rw e refl
+act_outside (changes.Delete p) row e = rw e refl
 
-pub keeps_outside : (marks : List ℕ) (plan : Plan) (lo end : ℕ) (rows : Rows) → AllByRecursion (FailsOutside marks (tests_of plan) lo end) rows → AllByRecursion (KeepsOutside marks (act_of plan) lo end) rows
+pub keeps_outside : (marks : List ℕ) (plan : ChangePlan) (lo end : ℕ) (rows : Rows) → AllByRecursion (FailsOutside marks (tests_of (as_plan plan)) lo end) rows → AllByRecursion (KeepsOutside marks (act_of plan) lo end) rows
 keeps_outside marks plan lo end [] all = tt
 keeps_outside marks plan lo end (row ∷ rows) all = (λ out. act_outside plan row (all.0 out), keeps_outside marks plan lo end rows all.1)
 
@@ -110,7 +104,7 @@ or_parts false b e = (refl, e)
 
 module _ (p : UpdatePlan) where
   abbrev act : List Value → Act
-  act = act_of (plans.Update p)
+  act = update_act p
 
   abbrev passes : List Value → Bool
   passes = passes_all p.conditions
@@ -182,7 +176,7 @@ module _ (p : UpdatePlan) where
 
 module _ (p : DeletePlan) where
   abbrev act_del : List Value → Act
-  act_del = act_of (plans.Delete p)
+  act_del = delete_act p
 
   abbrev passes_del : List Value → Bool
   passes_del = passes_all p.conditions
@@ -236,66 +230,38 @@ module _ (p : DeletePlan) where
 
 -- ---- the whole range
 
-pub of_there : (defs : List TableDef) (n : ℕ) (plan : Plan) → IsOfTable defs n plan → n < length defs
-of_there defs n (plans.Update p) of = of.0
-of_there defs n (plans.Delete p) of = of.0
-of_there defs n (plans.Insert p) of = absurd of
-of_there defs n (plans.Select p) of = absurd of
-of_there defs n (plans.Totals p) of = absurd of
-of_there defs n plans.Create of = absurd of
-of_there defs n plans.Begin of = absurd of
-of_there defs n plans.Commit of = absurd of
-of_there defs n plans.Rollback of = absurd of
+pub of_there : (defs : List TableDef) (n : ℕ) (plan : ChangePlan) → IsOfTable defs n plan → n < length defs
+of_there defs n (changes.Update p) of = of.0
+of_there defs n (changes.Delete p) of = of.0
 
 module _ (defs : List TableDef) (n lo hi : ℕ) (rows new : Rows) where
   abbrev ks : List ℕ
   ks = keys_at defs n
 
-  abbrev pub Fails : Plan → Type 0
-  Fails plan = AllByRecursion (FailsOutside ks (tests_of plan) lo (hi + 1)) rows
+  abbrev pub Fails : ChangePlan → Type 0
+  Fails plan = AllByRecursion (FailsOutside ks (tests_of (as_plan plan)) lo (hi + 1)) rows
 
-  pub made_rows : (plan : Plan) → IsOfTable defs n plan → Fails plan → (count : ℕ) → ActedSoFar ks lo (hi + 1) (act_of plan) count rows new → ChangesEnd (def_at defs n) plan (Ok (Made count)) rows new
-  made_rows (plans.Update p) of fails count f =
-      let out = keeps_outside ks (plans.Update p) lo (hi + 1) rows fails in
-      update_made p (def_at defs n) rows new count (f.rows ∙ acted_all ks (act_of (plans.Update p)) lo (hi + 1) rows out) (sym (some_all ks (act_of (plans.Update p)) is_refused refl lo (hi + 1) rows out) ∙ f.none_refused)
-      (f.count_is ∙ ap (λ (l : Rows). min (length l) (2 ^ 64 - 1)) (tests_all ks (act_of (plans.Update p)) is_done refl lo (hi + 1) rows out))
-  made_rows (plans.Delete p) of fails count f =
-      let out = keeps_outside ks (plans.Delete p) lo (hi + 1) rows fails in
-      delete_made p (def_at defs n) rows new count (f.rows ∙ acted_all ks (act_of (plans.Delete p)) lo (hi + 1) rows out)
-      (f.count_is ∙ ap (λ (l : Rows). min (length l) (2 ^ 64 - 1)) (tests_all ks (act_of (plans.Delete p)) is_done refl lo (hi + 1) rows out))
-  made_rows (plans.Insert p) of fails count f = absurd of
-  made_rows (plans.Select p) of fails count f = absurd of
-  made_rows (plans.Totals p) of fails count f = absurd of
-  made_rows plans.Create of fails count f = absurd of
-  made_rows plans.Begin of fails count f = absurd of
-  made_rows plans.Commit of fails count f = absurd of
-  made_rows plans.Rollback of fails count f = absurd of
+  pub made_rows : (plan : ChangePlan) → IsOfTable defs n plan → Fails plan → (count : ℕ) → ActedSoFar ks lo (hi + 1) (act_of plan) count rows new → ChangesEnd (def_at defs n) (as_plan plan) (Ok (Made count)) rows new
+  made_rows (changes.Update p) of fails count f =
+      let out = keeps_outside ks (changes.Update p) lo (hi + 1) rows fails in
+      update_made p.now (def_at defs n) rows new count (f.rows ∙ acted_all ks (update_act p.now) lo (hi + 1) rows out) (sym (some_all ks (update_act p.now) is_refused refl lo (hi + 1) rows out) ∙ f.none_refused)
+      (f.count_is ∙ ap (λ (l : Rows). min (length l) (2 ^ 64 - 1)) (tests_all ks (update_act p.now) is_done refl lo (hi + 1) rows out))
+  made_rows (changes.Delete p) of fails count f =
+      let out = keeps_outside ks (changes.Delete p) lo (hi + 1) rows fails in
+      delete_made p.now (def_at defs n) rows new count (f.rows ∙ acted_all ks (delete_act p.now) lo (hi + 1) rows out)
+      (f.count_is ∙ ap (λ (l : Rows). min (length l) (2 ^ 64 - 1)) (tests_all ks (delete_act p.now) is_done refl lo (hi + 1) rows out))
 
-  pub out_rows : (plan : Plan) → IsOfTable defs n plan → Fails plan → some_refused (act_of plan) (rows_in ks lo (hi + 1) rows) ≡ true → ChangesEnd (def_at defs n) plan (Ok OutOfRange) rows new
-  out_rows (plans.Update p) of fails some =
-      update_out p (def_at defs n) rows new (sym (some_all ks (act_of (plans.Update p)) is_refused refl lo (hi + 1) rows (keeps_outside ks (plans.Update p) lo (hi + 1) rows fails)) ∙ some)
-  out_rows (plans.Delete p) of fails some =
-      delete_out p (def_at defs n) rows new (sym (some_all ks (act_of (plans.Delete p)) is_refused refl lo (hi + 1) rows (keeps_outside ks (plans.Delete p) lo (hi + 1) rows fails)) ∙ some)
-  out_rows (plans.Insert p) of fails some = absurd of
-  out_rows (plans.Select p) of fails some = absurd of
-  out_rows (plans.Totals p) of fails some = absurd of
-  out_rows plans.Create of fails some = absurd of
-  out_rows plans.Begin of fails some = absurd of
-  out_rows plans.Commit of fails some = absurd of
-  out_rows plans.Rollback of fails some = absurd of
+  pub out_rows : (plan : ChangePlan) → IsOfTable defs n plan → Fails plan → some_refused (act_of plan) (rows_in ks lo (hi + 1) rows) ≡ true → ChangesEnd (def_at defs n) (as_plan plan) (Ok OutOfRange) rows new
+  out_rows (changes.Update p) of fails some =
+      update_out p.now (def_at defs n) rows new (sym (some_all ks (update_act p.now) is_refused refl lo (hi + 1) rows (keeps_outside ks (changes.Update p) lo (hi + 1) rows fails)) ∙ some)
+  out_rows (changes.Delete p) of fails some =
+      delete_out p.now (def_at defs n) rows new (sym (some_all ks (delete_act p.now) is_refused refl lo (hi + 1) rows (keeps_outside ks (changes.Delete p) lo (hi + 1) rows fails)) ∙ some)
 
-  reached_rows : (plan : Plan) → IsOfTable defs n plan → Fails plan → ComesIn ks (act_of plan) lo hi rows → ChangesRow (def_at defs n).keys plan rows
-  reached_rows (plans.Update p) of fails comes = update_reached p (rows_in ks lo (hi + 1) rows) rows comes.0 comes.1 (kept_all ks p.conditions lo (hi + 1) rows fails) comes.2
-  reached_rows (plans.Delete p) of fails comes = delete_reached p (rows_in ks lo (hi + 1) rows) rows comes.0 comes.1 (kept_all ks p.conditions lo (hi + 1) rows fails) comes.2
-  reached_rows (plans.Insert p) of fails comes = absurd of
-  reached_rows (plans.Select p) of fails comes = absurd of
-  reached_rows (plans.Totals p) of fails comes = absurd of
-  reached_rows plans.Create of fails comes = absurd of
-  reached_rows plans.Begin of fails comes = absurd of
-  reached_rows plans.Commit of fails comes = absurd of
-  reached_rows plans.Rollback of fails comes = absurd of
+  reached_rows : (plan : ChangePlan) → IsOfTable defs n plan → Fails plan → ComesIn ks (act_of plan) lo hi rows → ChangesRow (def_at defs n).keys (as_plan plan) rows
+  reached_rows (changes.Update p) of fails comes = update_reached p.now (rows_in ks lo (hi + 1) rows) rows comes.0 comes.1 (kept_all ks p.now.conditions lo (hi + 1) rows fails) comes.2
+  reached_rows (changes.Delete p) of fails comes = delete_reached p.now (rows_in ks lo (hi + 1) rows) rows comes.0 comes.1 (kept_all ks p.now.conditions lo (hi + 1) rows fails) comes.2
 
-  pub stop_rows : (plan : Plan) → IsOfTable defs n plan → Fails plan → (stop : Stop) → StopEnds ks (act_of plan) lo hi stop rows new → ChangesEnd (def_at defs n) plan (Err stop) rows new
+  pub stop_rows : (plan : ChangePlan) → IsOfTable defs n plan → Fails plan → (stop : Stop) → StopEnds ks (act_of plan) lo hi stop rows new → ChangesEnd (def_at defs n) (as_plan plan) (Err stop) rows new
   stop_rows plan of fails (stops.Refused (Txn used limit)) ends = reached_rows plan of fails ends
   stop_rows plan of fails (stops.Refused (Pages used limit)) ends = absurd ends
   stop_rows plan of fails (stops.Refused (Nodes used limit)) ends = absurd ends
@@ -307,55 +273,43 @@ module _ (defs : List TableDef) (n lo hi : ℕ) (rows new : Rows) where
   stop_rows plan of fails (stops.Spent limit) ends = tt
   stop_rows plan of fails stops.OutOfMemory ends = tt
 
-  pub sent_rows : (plan : Plan) (old now : List Call) → IsOfTable defs n plan → Fails plan → SendsOnly (flat_map (puts ks (act_of plan)) (rows_in ks lo (hi + 1) rows)) (flat_map (takes ks (act_of plan)) (rows_in ks lo (hi + 1) rows)) old now
-      → SendsOnly (flat_map (puts ks (act_of plan)) rows) (plan_takes ks plan rows) old now
+  pub sent_rows : (plan : ChangePlan) (old now : List Call) → IsOfTable defs n plan → Fails plan → SendsOnly (flat_map (puts ks (act_of plan)) (rows_in ks lo (hi + 1) rows)) (flat_map (takes ks (act_of plan)) (rows_in ks lo (hi + 1) rows)) old now
+      → SendsOnly (flat_map (puts ks (act_of plan)) rows) (flat_map (takes ks (act_of plan)) rows) old now
   sent_rows plan old now of fails sends =
       let out = keeps_outside ks plan lo (hi + 1) rows fails in
-      subst (λ (rs : Rows). SendsOnly rs (plan_takes ks plan rows) old now) (map_all ks (act_of plan) (λ a r. put_by a) (λ r. refl) lo (hi + 1) rows out)
+      subst (λ (rs : Rows). SendsOnly rs (flat_map (takes ks (act_of plan)) rows) old now) (map_all ks (act_of plan) (λ a r. put_by a) (λ r. refl) lo (hi + 1) rows out)
       (subst (λ (keys : List ℕ). SendsOnly (flat_map (puts ks (act_of plan)) (rows_in ks lo (hi + 1) rows)) keys old now) (map_all ks (act_of plan) (λ a r. taken_by ks a r) (λ r. refl) lo (hi + 1) rows out) sends)
-
-pub sets_are : (defs : List TableDef) (n : ℕ) (plan : Plan) (rows : Rows) → IsOfTable defs n plan → flat_map (puts (keys_at defs n) (act_of plan)) rows ≡ plan_sets plan rows
-sets_are defs n (plans.Update p) rows of = refl
-sets_are defs n (plans.Delete p) rows of = refl
-sets_are defs n (plans.Insert p) rows of = absurd of
-sets_are defs n (plans.Select p) rows of = absurd of
-sets_are defs n (plans.Totals p) rows of = absurd of
-sets_are defs n plans.Create rows of = absurd of
-sets_are defs n plans.Begin rows of = absurd of
-sets_are defs n plans.Commit rows of = absurd of
-sets_are defs n plans.Rollback rows of = absurd of
 
 -- ---- in the words of the calls
 
-module _ (defs : List TableDef) (n : ℕ) (plan : Plan) (of : IsOfTable defs n plan) (range : Range) (kept : NamesKept defs n (Some range) (tests_of plan)) (start new : List Call) (since : Since start new) where
+module _ (defs : List TableDef) (n : ℕ) (plan : ChangePlan) (of : IsOfTable defs n plan) (range : Range) (kept : NamesKept defs n (Some range) (tests_of (as_plan plan))) (start new : List Call) (since : Since start new) where
   fails_at : (first : Tables) → PlaysFrom defs first new → Fails defs n range.lo.number range.hi.number (table_at (tables_of first start) n).rows (table_at (tables_of first new) n).rows plan
   fails_at first plays =
       let was = plays_since defs first start new since plays in
-      all_outside defs n range (tests_of plan) kept (int_key defs n (of_there defs n plan of) first start was) (table_at (tables_of first start) n).rows (ordered_at defs n first start was).fits
+      all_outside defs n range (tests_of (as_plan plan)) kept (int_key defs n (of_there defs n plan of) first start was) (table_at (tables_of first start) n).rows (ordered_at defs n first start was).fits
 
-  pub all_made : (count : ℕ) → OnTable defs n (ActedSoFar (keys_at defs n) range.lo.number (range.hi.number + 1) (act_of plan) count) start new → OnTable defs n (ChangesEnd (def_at defs n) plan (Ok (Made count))) start new
+  pub all_made : (count : ℕ) → OnTable defs n (ActedSoFar (keys_at defs n) range.lo.number (range.hi.number + 1) (act_of plan) count) start new → OnTable defs n (ChangesEnd (def_at defs n) (as_plan plan) (Ok (Made count))) start new
   all_made count body first plays =
       let turns = body first plays in
       record { others = turns.others; rows = made_rows defs n range.lo.number range.hi.number _ _ plan of (fails_at first plays) count turns.rows }
 
-  pub all_out : OnTable defs n (λ r s. some_refused (act_of plan) (rows_in (keys_at defs n) range.lo.number (range.hi.number + 1) r) ≡ true) start new → OnTable defs n (ChangesEnd (def_at defs n) plan (Ok OutOfRange)) start new
+  pub all_out : OnTable defs n (λ r s. some_refused (act_of plan) (rows_in (keys_at defs n) range.lo.number (range.hi.number + 1) r) ≡ true) start new → OnTable defs n (ChangesEnd (def_at defs n) (as_plan plan) (Ok OutOfRange)) start new
   all_out body first plays =
       let turns = body first plays in
       record { others = turns.others; rows = out_rows defs n range.lo.number range.hi.number (table_at (tables_of first start) n).rows (table_at (tables_of first new) n).rows plan of (fails_at first plays) turns.rows }
 
-  pub all_stops : (stop : Stop) → OnTable defs n (StopEnds (keys_at defs n) (act_of plan) range.lo.number range.hi.number stop) start new → OnTable defs n (ChangesEnd (def_at defs n) plan (Err stop)) start new
+  pub all_stops : (stop : Stop) → OnTable defs n (StopEnds (keys_at defs n) (act_of plan) range.lo.number range.hi.number stop) start new → OnTable defs n (ChangesEnd (def_at defs n) (as_plan plan) (Err stop)) start new
   all_stops stop body first plays =
       let turns = body first plays in
       record { others = turns.others; rows = stop_rows defs n range.lo.number range.hi.number _ _ plan of (fails_at first plays) stop turns.rows }
 
   pub all_sent : ((first : Tables) → PlaysFrom defs first new → SendsOnly (flat_map (puts (keys_at defs n) (act_of plan)) (rows_in (keys_at defs n) range.lo.number (range.hi.number + 1) (table_at (tables_of first start) n).rows))
-      (flat_map (takes (keys_at defs n) (act_of plan)) (rows_in (keys_at defs n) range.lo.number (range.hi.number + 1) (table_at (tables_of first start) n).rows)) start new) → ChangeSends defs n plan start new
+      (flat_map (takes (keys_at defs n) (act_of plan)) (rows_in (keys_at defs n) range.lo.number (range.hi.number + 1) (table_at (tables_of first start) n).rows)) start new) → ChangeSends defs n (act_of plan) start new
   all_sent sends first plays =
       let rows = (table_at (tables_of first start) n).rows in
       let was = plays_since defs first start new since plays in
       let all = sent_rows defs n range.lo.number range.hi.number rows (table_at (tables_of first new) n).rows plan start new of (fails_at first plays) (sends first plays) in
-      subst (λ (marks : List ℕ). SendsOnly (plan_sets plan rows) (plan_takes marks plan rows) start new) (sym (keys_now defs n first start was))
-      (subst (λ (rs : Rows). SendsOnly rs (plan_takes (keys_at defs n) plan rows) start new) (sets_are defs n plan rows of) all)
+      subst (λ (marks : List ℕ). SendsOnly (flat_map (puts marks (act_of plan)) rows) (flat_map (takes marks (act_of plan)) rows) start new) (sym (keys_now defs n first start was)) all
 
 -- all rows of a range were sent
 pub whole_sent : (rows : Rows) (keys : List ℕ) (old new : List Call) → SendsAll rows keys old new → SendsOnly rows keys old new

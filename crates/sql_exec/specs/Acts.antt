@@ -5,29 +5,39 @@ use Rattle.std.specs.List.{flat_map, list_any}
 use Rattle.row_types.specs.declared.row.Value.{Value}
 use Rattle.row_types.specs.Keys.{row_key}
 use Rattle.key_space.specs.Plays.{Rows, with_row, without_key}
+use Rattle.sql_check.specs.declared.plan.DeletePlan.{DeletePlan}
 use Rattle.sql_check.specs.declared.plan.Plan.{Plan}
 use Rattle.sql_check.specs.declared.plan.Plan.TheVariants as plans
+use Rattle.sql_check.specs.declared.plan.UpdatePlan.{UpdatePlan}
 use Rattle.plain_model.specs.PlanMeaning.{passes_all, planned_row}
 use Rattle.sql_exec.specs.declared.act.Act.{Act}
 use Rattle.sql_exec.specs.declared.act.Act.TheVariants.{Keep, Set, Take, Refuse}
+use Rattle.sql_exec.specs.declared.act.ChangePlan.{ChangePlan}
+use Rattle.sql_exec.specs.declared.act.ChangePlan.TheVariants as changes
 
 -- the new row takes the place of the old one, where it can be made
 abbrev pub set_or_refuse : Option (List Value) → Act
 set_or_refuse None = Refuse
 set_or_refuse (Some new) = Set new
 
--- what a plan does with a row that is there
-abbrev pub act_of : Plan → List Value → Act
-act_of (plans.Update p) row =
+-- what an UPDATE does with a row that is there
+abbrev pub update_act : UpdatePlan → List Value → Act
+update_act p row =
     if passes_all p.conditions row then set_or_refuse (planned_row p.changes row) else Keep
-act_of (plans.Delete p) row = if passes_all p.conditions row then Take else Keep
-act_of (plans.Insert p) row = Keep
-act_of (plans.Select p) row = Keep
-act_of (plans.Totals p) row = Keep
-act_of plans.Create row = Keep
-act_of plans.Begin row = Keep
-act_of plans.Commit row = Keep
-act_of plans.Rollback row = Keep
+
+-- what a DELETE does with it
+abbrev pub delete_act : DeletePlan → List Value → Act
+delete_act p row = if passes_all p.conditions row then Take else Keep
+
+-- what either does with it
+abbrev pub act_of : ChangePlan → List Value → Act
+act_of (changes.Update p) row = update_act p.now row
+act_of (changes.Delete p) row = delete_act p.now row
+
+-- the plan that it is
+abbrev pub as_plan : ChangePlan → Plan
+as_plan (changes.Update p) = plans.Update p.now
+as_plan (changes.Delete p) = plans.Delete p.now
 
 -- it changes the row or takes it away
 abbrev pub is_done : Act → Bool

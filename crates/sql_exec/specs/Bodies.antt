@@ -40,11 +40,11 @@ goes_back (Put table row) = false
 goes_back (Del table key answer) = false
 
 -- nothing was called but row operations and marks, and none goes back
-pub data Works (old : List Call) : List Call → Type 0 where
-  here : Works old old
-  did : (op : RowOp) (calls : List Call) → goes_back op ≡ false → Works old calls → Works old (Did op ∷ calls)
-  stopped : (asked : Asked) (stop : Stop) (calls : List Call) → is_row_call asked ≡ true → Works old calls
-      → Works old (Stopped asked stop ∷ calls)
+pub data OnlyForward (old : List Call) : List Call → Type 0 where
+  here : OnlyForward old old
+  did : (op : RowOp) (calls : List Call) → goes_back op ≡ false → OnlyForward old calls → OnlyForward old (Did op ∷ calls)
+  stopped : (asked : Asked) (stop : Stop) (calls : List Call) → is_row_call asked ≡ true → OnlyForward old calls
+      → OnlyForward old (Stopped asked stop ∷ calls)
 
 -- a transaction runs, and the keys from one to another may be looked up
 abbrev pub CanRead : List Call → ℕ → ℕ → ℕ → Type 0

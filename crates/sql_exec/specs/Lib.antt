@@ -2,6 +2,7 @@ pub mod Acts
 pub mod Bodies
 pub mod Fits
 pub mod Means
+pub mod Parts
 pub mod Pieces
 pub mod Plays
 pub mod Selects

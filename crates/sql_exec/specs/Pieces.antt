@@ -6,24 +6,27 @@ use Rattle.row_types.specs.declared.definition.TableDef.{TableDef}
 use Rattle.row_types.specs.declared.row.Value.{Value}
 use Rattle.row_types.specs.Keys.{row_key}
 use Rattle.row_types.specs.Schema.{keys_at}
+use Rattle.row_types.specs.Tables.{Tables}
 use Rattle.key_space.specs.declared.range.Range.{Range}
 use Rattle.key_space.specs.Plays.{Rows, Put, Del, row_at}
-use Rattle.sql_check.specs.declared.plan.Plan.{Plan}
-use Rattle.sql_check.specs.declared.plan.Plan.TheVariants as plans
 use Rattle.plain_model.specs.declared.stop.Resource.{Resource}
 use Rattle.plain_model.specs.declared.stop.Resource.TheVariants.{Pages, Nodes, Txn}
 use Rattle.plain_model.specs.declared.stop.Stop.{Stop}
 use Rattle.plain_model.specs.declared.stop.Stop.TheVariants as stops
+use Rattle.plain_model.specs.CallPlays.{tables_of}
 use Rattle.plain_model.specs.Calls.{AskDel, AskPut, Call, Did}
+use Rattle.plain_model.specs.Meaning.{table_at}
 use Rattle.plain_model.specs.Runs.{pushed, keys_taken, rows_put}
 use Rattle.sql_exec.specs.declared.act.Act.{Act}
 use Rattle.sql_exec.specs.declared.act.Act.TheVariants.{Keep, Set, Take, Refuse}
+use Rattle.sql_exec.specs.declared.act.ChangePlan.{ChangePlan}
+use Rattle.sql_exec.specs.declared.act.ChangePlan.TheVariants as changes
 use Rattle.sql_exec.specs.declared.act.Passed.{Passed}
 use Rattle.sql_exec.specs.Acts.{act_of, acted_in, done_count, effects, is_done, is_refused, put_by, rows_in}
 use Rattle.sql_exec.specs.Acts.{some_refused, taken_by}
 use Rattle.sql_exec.specs.Bodies.{Gives}
 use Rattle.sql_exec.specs.Fits.{ChangesInPlace}
-use Rattle.sql_exec.specs.Plays.{OnTable}
+use Rattle.sql_exec.specs.Plays.{OnTable, PlaysFrom}
 use Rattle.sql_exec.specs.Sends.{SendsOnly}
 
 -- ---- One row
@@ -104,7 +107,7 @@ ListSends marks act list (Err stop) old new =
     (flat_map (λ row. taken_by marks (act row) row) list) old new
 
 -- how the run over a list of rows ended
-pub record ActsAll (defs : List TableDef) (table : ℕ) (plan : Plan) (list : Rows) (old : List Call)
+pub record ActsAll (defs : List TableDef) (table : ℕ) (plan : ChangePlan) (list : Rows) (old : List Call)
     (result : Result (Option ℕ) Stop) (new : List Call) : Type 0 where
   pub plain : OnTable defs table (ListEnds (keys_at defs table) (act_of plan) list result) old new
   pub sent : ListSends (keys_at defs table) (act_of plan) list result old new
@@ -149,8 +152,15 @@ PieceSends marks act range (Err stop) rows old new =
     (rows_in marks range.lo.number (range.hi.number + 1) rows)) old new
 
 -- the plan changes rows of this table, which is there, in their places
-abbrev pub IsOfTable : List TableDef → ℕ → Plan → Type 0
-IsOfTable defs table (plans.Update p) =
-    (table < length defs) × (p.table ≡ table) × ChangesInPlace defs table p.changes
-IsOfTable defs table (plans.Delete p) = (table < length defs) × (p.table ≡ table)
-IsOfTable defs table plan = ⊥
+abbrev pub IsOfTable : List TableDef → ℕ → ChangePlan → Type 0
+IsOfTable defs table (changes.Update p) =
+    (table < length defs) × (p.now.table ≡ table) × ChangesInPlace defs table p.now.changes
+IsOfTable defs table (changes.Delete p) = (table < length defs) × (p.now.table ≡ table)
+
+-- how the run over the first piece of a range ended
+pub record ActsPiece (defs : List TableDef) (table : ℕ) (plan : ChangePlan) (range : Range) (old : List Call)
+    (result : Result (Option Passed) Stop) (new : List Call) : Type 0 where
+  pub plain : OnTable defs table (PieceEnds (keys_at defs table) (act_of plan) range result) old new
+  pub sent : (first : Tables) → PlaysFrom defs first new
+      → PieceSends (keys_at defs table) (act_of plan) range result (table_at (tables_of first old) table).rows old
+      new

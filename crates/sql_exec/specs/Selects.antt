@@ -27,20 +27,19 @@ shown_of p wanted rows = map (in_columns p.columns) (limited wanted (filter (pas
 abbrev pub sums_of : TotalsPlan → Rows → List ℤ
 sums_of p rows = map (planned_total (filter (passes_all p.conditions) rows)) p.totals
 
--- the rows of a range that pass were found, and none changed
-abbrev pub Found : List ℕ → Range → SelectPlan → Option ℕ → Rows → Rows → Rows → Type 0
-Found marks range p wanted found old new =
-    (found ≡ shown_of p wanted (rows_in marks range.lo.number (range.hi.number + 1) old)) × (new ≡ old)
+-- what is shown of the rows of a range that pass was found
+abbrev pub Found : List ℕ → Range → SelectPlan → Option ℕ → Rows → Rows → Type 0
+Found marks range p wanted found rows =
+    found ≡ shown_of p wanted (rows_in marks range.lo.number (range.hi.number + 1) rows)
 
--- they were found in the order that is asked for, at most LIMIT of them
-abbrev pub FoundInOrder : List ℕ → Range → SelectPlan → Rows → Rows → Rows → Type 0
-FoundInOrder marks range p found old new =
-    (found
+-- it was found in the order that is asked for, of at most LIMIT of them
+abbrev pub FoundInOrder : List ℕ → Range → SelectPlan → Rows → Rows → Type 0
+FoundInOrder marks range p found rows =
+    found
     ≡ map (in_columns p.columns)
     (limited p.limit
     (put_in_order p.is_falling
-    (filter (passes_all p.conditions) (rows_in marks range.lo.number (range.hi.number + 1) old)))))
-    × (new ≡ old)
+    (filter (passes_all p.conditions) (rows_in marks range.lo.number (range.hi.number + 1) rows))))
 
 -- what a row adds to a total
 abbrev pub part_of : List Value → TotalPlan → ℤ

@@ -16,7 +16,8 @@ use Rattle.plain_model.specs.CallPlays.{tables_of}
 use Rattle.plain_model.specs.Meaning.{kept, table_at}
 use Rattle.plain_model.specs.Runs.{InOrder, keys_taken, rows_put}
 use Rattle.plain_model.specs.Values.{changed_row}
-use Rattle.sql_exec.specs.Acts.{act_of, put_by, taken_by}
+use Rattle.sql_exec.specs.declared.act.Act.{Act}
+use Rattle.sql_exec.specs.Acts.{delete_act, put_by, taken_by, update_act}
 use Rattle.sql_exec.specs.Plays.{PlaysFrom}
 
 -- the new row, where it can be made
@@ -81,26 +82,17 @@ Sends defs statement old new = SendsNothing old new
 
 -- ---- By the numbers of columns
 
--- the rows that a plan sets
-abbrev pub plan_sets : Plan → Rows → Rows
-plan_sets (plans.Insert p) rows = p.rows
-plan_sets plan rows = flat_map (λ row. put_by (act_of plan row)) rows
-
--- the keys that a plan takes away
-abbrev pub plan_takes : List ℕ → Plan → Rows → List ℕ
-plan_takes marks plan rows = flat_map (λ row. taken_by marks (act_of plan row) row) rows
-
--- wherever the calls are those of some tables, they send what a plan sets and takes away of table n
-abbrev pub ChangeSends : List TableDef → ℕ → Plan → List Call → List Call → Type 0
-ChangeSends defs n plan old new =
+-- wherever the calls are those of some tables, they send what is set and taken away of table n
+abbrev pub ChangeSends : List TableDef → ℕ → (List Value → Act) → List Call → List Call → Type 0
+ChangeSends defs n act old new =
     (first : Tables) → PlaysFrom defs first new
-    → SendsOnly (plan_sets plan (table_at (tables_of first old) n).rows)
-    (plan_takes (table_at (tables_of first old) n).def.keys plan
+    → SendsOnly (flat_map (λ row. put_by (act row)) (table_at (tables_of first old) n).rows)
+    (flat_map (λ row. taken_by (table_at (tables_of first old) n).def.keys (act row) row)
     (table_at (tables_of first old) n).rows) old new
 
 -- what the calls for any plan send
 abbrev pub PlanSends : List TableDef → ℕ → Plan → List Call → List Call → Type 0
 PlanSends defs n (plans.Insert p) old new = SendsOnly p.rows [] old new
-PlanSends defs n (plans.Update p) old new = ChangeSends defs n (plans.Update p) old new
-PlanSends defs n (plans.Delete p) old new = ChangeSends defs n (plans.Delete p) old new
+PlanSends defs n (plans.Update p) old new = ChangeSends defs n (update_act p) old new
+PlanSends defs n (plans.Delete p) old new = ChangeSends defs n (delete_act p) old new
 PlanSends defs n plan old new = SendsNothing old new

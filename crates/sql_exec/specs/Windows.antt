@@ -1,5 +1,5 @@
 -- What is found of the last rows of a range, and of a window of it.
-use Rattle.std.specs.Prelude.{◌≡◌, ℕ, ◌+◌, List, map, reverse, take, filter}
+use Rattle.std.specs.Prelude.{◌≡◌, ℕ, ◌+◌, List, ⊤, map, reverse, take, filter}
 use Rattle.key_space.specs.declared.range.Range.{Range}
 use Rattle.key_space.specs.Plays.{Rows}
 use Rattle.sql_check.specs.declared.plan.SelectPlan.{SelectPlan}
@@ -14,12 +14,12 @@ abbrev pub last_shown : SelectPlan → ℕ → Rows → Rows
 last_shown p limit rows =
     map (in_columns p.columns) (take limit (reverse (filter (passes_all p.conditions) rows)))
 
--- they were found of a range, and no row changed
-abbrev pub FoundLast : List ℕ → Range → SelectPlan → ℕ → Rows → Rows → Rows → Type 0
-FoundLast marks range p limit found old new =
-    (found ≡ last_shown p limit (rows_in marks range.lo.number (range.hi.number + 1) old)) × (new ≡ old)
+-- that was found of a range
+abbrev pub FoundLast : List ℕ → Range → SelectPlan → ℕ → Rows → Rows → Type 0
+FoundLast marks range p limit found rows =
+    found ≡ last_shown p limit (rows_in marks range.lo.number (range.hi.number + 1) rows)
 
 -- a window was read to its end, or given up
-abbrev pub WindowEnds : List ℕ → Range → SelectPlan → ℕ → Window → Rows → Rows → Type 0
-WindowEnds marks window p wanted (Whole found) old new = FoundLast marks window p wanted found.items old new
-WindowEnds marks window p wanted (GivenUp width) old new = new ≡ old
+abbrev pub WindowEnds : List ℕ → Range → SelectPlan → ℕ → Window → Rows → Type 0
+WindowEnds marks window p wanted (Whole found) rows = FoundLast marks window p wanted found.items rows
+WindowEnds marks window p wanted (GivenUp width) rows = ⊤

@@ -1,6 +1,14 @@
 // What UPDATE and DELETE do with each row, and what changes come to.
 use key_space::Key;
 use row_types::{Items, Row};
+use sql_check::{DeletePlan, UpdatePlan};
+
+/// The plan of a statement that changes the rows that it keeps.
+#[derive(Clone, Copy)]
+pub(crate) enum ChangePlan<'a> {
+    Update(&'a UpdatePlan),
+    Delete(&'a DeletePlan),
+}
 
 /// What is done with a row.
 #[derive(Drop)]

@@ -3,57 +3,42 @@ ghost use Rattle.std.specs.Prelude.{◌≡◌, ◌≤◌, IfErr, IfOk, IfSome, I
 ghost use Rattle.std.specs.List.{AllByRecursion};
 ghost use Rattle.row_types.specs.Keys.{row_key};
 ghost use Rattle.row_types.specs.Schema.{keys_at};
-ghost use Rattle.row_types.specs.Tables.{Tables};
 ghost use Rattle.key_space.specs.Ranges.{IsNotEmpty};
 ghost use Rattle.sql_check.specs.Columns.{def_at};
-ghost use Rattle.sql_check.specs.declared.plan.Plan.TheVariants.{Update};
 ghost use Rattle.plain_model.specs.CallRows.{IsRowAt};
 ghost use Rattle.plain_model.specs.Calls.{is_running};
-ghost use Rattle.plain_model.specs.CallPlays.{tables_of};
-ghost use Rattle.plain_model.specs.Meaning.{table_at};
 ghost use Rattle.plain_model.specs.Runs.{Since};
-ghost use Rattle.sql_exec.specs.Acts.{act_of};
-ghost use Rattle.sql_exec.specs.Bodies.{CanWrite, ChangesEnd, PlanEnds, Works};
+ghost use Rattle.sql_exec.specs.Acts.{act_of, as_plan, delete_act, update_act};
+ghost use Rattle.sql_exec.specs.Bodies.{CanWrite, OnlyForward, PlanEnds};
 ghost use Rattle.sql_exec.specs.Means.{HasGiver, IsNotSpentReply, IsOwnOrBy, Stops};
 ghost use Rattle.sql_exec.specs.Fits.{NamesKept, tests_of};
-ghost use Rattle.sql_exec.specs.Pieces.{ActsOne, ActsAll, IsOfTable, PieceEnds, PieceSends};
-ghost use Rattle.sql_exec.specs.Plays.{OnTable, PlaysFrom};
+ghost use Rattle.sql_exec.specs.Parts.{Changed};
+ghost use Rattle.sql_exec.specs.Pieces.{ActsAll, ActsOne, ActsPiece, IsOfTable};
+ghost use Rattle.sql_exec.specs.Plays.{OnTable};
 ghost use Rattle.sql_exec.specs.Sends.{ChangeSends};
 
 use crate::OutOfMemory;
-use crate::act::{Act, Changes, Passed};
+use crate::act::{Act, ChangePlan, Changes, Passed};
 use crate::settle::settle;
 use crate::values::{passes_all, planned_row};
 use key_space::{Range, key_of};
 use plain_model::{Reply, RowCalls, Stop};
 use row_types::Row;
-use sql_check::{Plan, UpdatePlan};
+use sql_check::{DeletePlan, UpdatePlan};
 use std::alloc::Global;
 
 /// What a plan does with a row that is there.
-fn act_of(alloc: Global, plan: &Plan, row: &Row) -> Result<Act, OutOfMemory>
-    ensures { IfOk result (λ act. act ≡ act_of plan.now row.now) }
+fn act_of(alloc: Global, plan: ChangePlan<'_>, row: &Row) -> Result<Act, OutOfMemory>
+    ensures { IfOk result (λ act. act ≡ act_of plan.entry row.now) }
 {
     match plan {
-        Plan::Update(p) => update_of(alloc, p, row),
-        Plan::Delete(p) => {
-            if passes_all(p.conditions.as_slice(), row) {
-                return Ok(Act::Take);
-            }
-            Ok(Act::Keep)
-        }
-        Plan::Insert(_) => Ok(Act::Keep),
-        Plan::Select(_) => Ok(Act::Keep),
-        Plan::Totals(_) => Ok(Act::Keep),
-        Plan::Create => Ok(Act::Keep),
-        Plan::Begin => Ok(Act::Keep),
-        Plan::Commit => Ok(Act::Keep),
-        Plan::Rollback => Ok(Act::Keep),
+        ChangePlan::Update(p) => update_act(alloc, p, row),
+        ChangePlan::Delete(p) => Ok(delete_act(p, row)),
     }
 }
 
-fn update_of(alloc: Global, p: &UpdatePlan, row: &Row) -> Result<Act, OutOfMemory>
-    ensures { IfOk result (λ act. act ≡ act_of (Update p.now) row.now) }
+fn update_act(alloc: Global, p: &UpdatePlan, row: &Row) -> Result<Act, OutOfMemory>
+    ensures { IfOk result (λ act. act ≡ update_act p.now row.now) }
 {
     if !passes_all(p.conditions.as_slice(), row) {
         return Ok(Act::Keep);
@@ -64,22 +49,31 @@ fn update_of(alloc: Global, p: &UpdatePlan, row: &Row) -> Result<Act, OutOfMemor
     }
 }
 
+fn delete_act(p: &DeletePlan, row: &Row) -> Act
+    ensures { result ≡ delete_act p.now row.now }
+{
+    if passes_all(p.conditions.as_slice(), row) {
+        return Act::Take;
+    }
+    Act::Keep
+}
+
 /// Does to a row of the table what the plan says, and returns whether that is anything. `None`: the new row
 /// can't be made.
 fn act<R: RowCalls>(
     alloc: Global,
     rows: &mut R,
     table: u16,
-    plan: &Plan,
+    plan: ChangePlan<'_>,
     row: &Row,
 ) -> Result<Option<bool>, Stop>
-    requires plan { IsOfTable (R.defs rows.old) table plan.now }
+    requires plan { IsOfTable (R.defs rows.old) table plan }
     requires row { IsRowAt (R.defs rows.old) table (row_key (keys_at (R.defs rows.old) table) row.now)
         (row_key (keys_at (R.defs rows.old) table) row.now) row.now }
     requires can { CanWrite (R.calls rows.old) table (row_key (keys_at (R.defs rows.old) table) row.now)
         (row_key (keys_at (R.defs rows.old) table) row.now) }
     ensures schema { R.defs rows.new ≡ R.defs rows.old }
-    ensures calls { ActsOne (keys_at (R.defs rows.old) table) table (act_of plan.now row.now) row.now
+    ensures calls { ActsOne (keys_at (R.defs rows.old) table) table (act_of plan.entry row.now) row.now
         (R.calls rows.old) result (R.calls rows.new) }
 {
     match act_of(alloc, plan, row)? {
@@ -103,19 +97,19 @@ fn act_all<R: RowCalls>(
     alloc: Global,
     rows: &mut R,
     table: u16,
-    plan: &Plan,
+    plan: ChangePlan<'_>,
     piece: &[Row],
     range: Range,
 ) -> Result<Option<u64>, Stop>
-    requires plan { IsOfTable (R.defs rows.old) table plan.now }
+    requires plan { IsOfTable (R.defs rows.old) table plan }
     requires rows { AllByRecursion
         (IsRowAt (R.defs rows.old) table range.lo.number range.hi.number) piece.now }
     requires can { CanWrite (R.calls rows.old) table range.lo.number range.hi.number }
     ensures schema { R.defs rows.new ≡ R.defs rows.old }
-    ensures works { Works (R.calls rows.old) (R.calls rows.new) }
+    ensures forward { OnlyForward (R.calls rows.old) (R.calls rows.new) }
     ensures can { OnOk result (CanWrite (R.calls rows.new) table range.lo.number range.hi.number) }
     ensures end { IfErr result (IsOwnOrBy (R.calls rows.new)) }
-    ensures acts { ActsAll (R.defs rows.old) table plan.now piece.now (R.calls rows.old) result
+    ensures acts { ActsAll (R.defs rows.old) table plan.entry piece.now (R.calls rows.old) result
         (R.calls rows.new) }
 {
     let mut count = 0;
@@ -135,24 +129,20 @@ fn act_piece<R: RowCalls>(
     alloc: Global,
     rows: &mut R,
     table: u16,
-    plan: &Plan,
+    plan: ChangePlan<'_>,
     range: Range,
 ) -> Result<Option<Passed>, Stop>
     requires range { IsNotEmpty range }
-    requires plan { IsOfTable (R.defs rows.old) table plan.now }
+    requires plan { IsOfTable (R.defs rows.old) table plan }
     requires can { CanWrite (R.calls rows.old) table range.lo.number range.hi.number }
     ensures schema { R.defs rows.new ≡ R.defs rows.old }
-    ensures works { Works (R.calls rows.old) (R.calls rows.new) }
+    ensures forward { OnlyForward (R.calls rows.old) (R.calls rows.new) }
     ensures can { OnOk result (CanWrite (R.calls rows.new) table range.lo.number range.hi.number) }
     ensures end { IfErr result (IsOwnOrBy (R.calls rows.new)) }
     ensures low { IfOk result (λ passed. IfSome passed (λ passed. range.lo.number ≤ passed.upto.number)) }
     ensures high { IfOk result (λ passed. IfSome passed (λ passed. passed.upto.number ≤ range.hi.number)) }
-    ensures plain { OnTable (R.defs rows.old) table
-        (PieceEnds (keys_at (R.defs rows.old) table) (act_of plan.now) range result)
-        (R.calls rows.old) (R.calls rows.new) }
-    ensures sent { (first : Tables) → PlaysFrom (R.defs rows.old) first (R.calls rows.new)
-        → PieceSends (keys_at (R.defs rows.old) table) (act_of plan.now) range result
-        (table_at (tables_of first (R.calls rows.old)) table).rows (R.calls rows.old) (R.calls rows.new) }
+    ensures acts { ActsPiece (R.defs rows.old) table plan.entry range (R.calls rows.old) result
+        (R.calls rows.new) }
 {
     let piece = rows.chunk(table, range)?;
     let reached = Range {
@@ -173,21 +163,16 @@ fn change_all<R: RowCalls>(
     alloc: Global,
     rows: &mut R,
     table: u16,
-    plan: &Plan,
+    plan: ChangePlan<'_>,
     range: Range,
 ) -> Result<Changes, Stop>
     requires range { IsNotEmpty range }
-    requires plan { IsOfTable (R.defs rows.old) table plan.now }
-    requires kept { NamesKept (R.defs rows.old) table (Some range) (tests_of plan.now) }
+    requires plan { IsOfTable (R.defs rows.old) table plan }
+    requires kept { NamesKept (R.defs rows.old) table (Some range) (tests_of (as_plan plan)) }
     requires can { CanWrite (R.calls rows.old) table range.lo.number range.hi.number }
     ensures schema { R.defs rows.new ≡ R.defs rows.old }
-    ensures works { Works (R.calls rows.old) (R.calls rows.new) }
-    ensures runs { OnOk result (IsTrue (is_running (R.calls rows.new))) }
-    ensures end { IfErr result (IsOwnOrBy (R.calls rows.new)) }
-    ensures plain { OnTable (R.defs rows.old) table
-        (ChangesEnd (def_at (R.defs rows.old) table) plan.now result)
-        (R.calls rows.old) (R.calls rows.new) }
-    ensures sent { ChangeSends (R.defs rows.old) table plan.now (R.calls rows.old) (R.calls rows.new) }
+    ensures changed { Changed (R.defs rows.old) table (as_plan plan.entry) (R.calls rows.old) result
+        (R.calls rows.new) }
 {
     let mut rest = range;
     let mut count: u64 = 0;
@@ -208,12 +193,12 @@ pub(crate) fn change<R: RowCalls>(
     alloc: Global,
     rows: &mut R,
     table: u16,
-    plan: &Plan,
+    plan: ChangePlan<'_>,
     range: Range,
 ) -> Result<Reply, Stop>
     requires range { IsNotEmpty range }
-    requires plan { IsOfTable (R.defs rows.old) table plan.now }
-    requires kept { NamesKept (R.defs rows.old) table (Some range) (tests_of plan.now) }
+    requires plan { IsOfTable (R.defs rows.old) table plan }
+    requires kept { NamesKept (R.defs rows.old) table (Some range) (tests_of (as_plan plan)) }
     requires can { CanWrite (R.calls rows.old) table range.lo.number range.hi.number }
     ensures schema { R.defs rows.new ≡ R.defs rows.old }
     ensures since { Since (R.calls rows.old) (R.calls rows.new) }
@@ -222,9 +207,9 @@ pub(crate) fn change<R: RowCalls>(
     ensures lack { IfOk result (HasGiver (R.calls rows.old) (R.calls rows.new)) }
     ensures spent { IfOk result IsNotSpentReply }
     ensures plain { OnTable (R.defs rows.old) table
-        (PlanEnds (def_at (R.defs rows.old) table) plan.now result)
+        (PlanEnds (def_at (R.defs rows.old) table) (as_plan plan.entry) result)
         (R.calls rows.old) (R.calls rows.new) }
-    ensures sent { ChangeSends (R.defs rows.old) table plan.now (R.calls rows.old) (R.calls rows.new) }
+    ensures sent { ChangeSends (R.defs rows.old) table (act_of plan.entry) (R.calls rows.old) (R.calls rows.new) }
 {
     let mark = rows.mark()?;
     let changes = change_all(alloc, rows, table, plan, range);

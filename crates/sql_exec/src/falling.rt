@@ -5,17 +5,14 @@
 // however long, takes few. A window of which the first piece isn't all, as the first one below such a stretch,
 // is given up for its upper half, but not more often than a key has bits. So no row is read twice, but for the
 // pieces of windows that were given up, and there are some 200 windows at most.
-ghost use Rattle.std.specs.Prelude.{◌≡◌, ◌<◌, ◌≤◌, ◌-◌, ◌++◌, length, IfErr, IfOk, IfSome, IsTrue, OnOk, Ok, None};
+ghost use Rattle.std.specs.Prelude.{◌≡◌, ◌<◌, ◌≤◌, ◌-◌, ◌++◌, length, IfOk, IfSome, OnOk, Ok, None};
 ghost use Rattle.key_space.specs.Plays.{Rows};
 ghost use Rattle.key_space.specs.Ranges.{IsNotEmpty};
 ghost use Rattle.row_types.specs.Schema.{keys_at};
-ghost use Rattle.plain_model.specs.Calls.{is_running};
 ghost use Rattle.sql_exec.specs.declared.window.Width.{Width};
 ghost use Rattle.sql_exec.specs.declared.window.Window.TheVariants.{GivenUp};
-ghost use Rattle.sql_exec.specs.Bodies.{CanRead, Works};
-ghost use Rattle.sql_exec.specs.Means.{Stops};
-ghost use Rattle.sql_exec.specs.Plays.{OnTable};
-ghost use Rattle.sql_exec.specs.Sends.{SendsNothing};
+ghost use Rattle.sql_exec.specs.Bodies.{CanRead};
+ghost use Rattle.sql_exec.specs.Parts.{Reads};
 ghost use Rattle.sql_exec.specs.Windows.{FoundLast, WindowEnds, last_shown};
 
 use crate::OutOfMemory;
@@ -62,14 +59,10 @@ fn last_in<R: RowCalls>(
     requires window { IsNotEmpty window }
     requires can { CanRead (R.calls rows.old) p.now.table window.lo.number window.hi.number }
     ensures schema { R.defs rows.new ≡ R.defs rows.old }
-    ensures works { Works (R.calls rows.old) (R.calls rows.new) }
-    ensures runs { OnOk result (IsTrue (is_running (R.calls rows.new))) }
-    ensures end { IfErr result (Stops (R.calls rows.new)) }
-    ensures plain { IfOk result (λ read. OnTable (R.defs rows.old) p.now.table
-        (WindowEnds (keys_at (R.defs rows.old) p.now.table) window p.now wanted read)
-        (R.calls rows.old) (R.calls rows.new)) }
+    ensures read { Reads (R.defs rows.old) p.now.table
+        (WindowEnds (keys_at (R.defs rows.old) p.now.table) window p.now wanted)
+        (R.calls rows.old) result (R.calls rows.new) }
     ensures given_up { (next : Width) → result ≡ Ok (GivenUp next) → next.halvings < width.halvings }
-    ensures sent { SendsNothing (R.calls rows.old) (R.calls rows.new) }
 {
     let mut found = VecDeque::new(alloc);
     let mut rest = window;
@@ -99,16 +92,12 @@ fn last_part<R: RowCalls>(
     requires rest { IsNotEmpty rest }
     requires can { CanRead (R.calls rows.old) p.now.table rest.lo.number rest.hi.number }
     ensures schema { R.defs rows.new ≡ R.defs rows.old }
-    ensures works { Works (R.calls rows.old) (R.calls rows.new) }
-    ensures runs { OnOk result (IsTrue (is_running (R.calls rows.new))) }
-    ensures end { IfErr result (Stops (R.calls rows.new)) }
+    ensures read { Reads (R.defs rows.old) p.now.table
+        (λ part. FoundLast (keys_at (R.defs rows.old) p.now.table) part.window p.now wanted part.found.items)
+        (R.calls rows.old) result (R.calls rows.new) }
     ensures low { IfOk result (λ part. rest.lo.number ≤ part.window.lo.number) }
     ensures some { IfOk result (λ part. IsNotEmpty part.window) }
     ensures high { IfOk result (λ part. part.window.hi ≡ rest.hi) }
-    ensures plain { IfOk result (λ part. OnTable (R.defs rows.old) p.now.table
-        (FoundLast (keys_at (R.defs rows.old) p.now.table) part.window p.now wanted part.found.items)
-        (R.calls rows.old) (R.calls rows.new)) }
-    ensures sent { SendsNothing (R.calls rows.old) (R.calls rows.new) }
 {
     let mut width = first;
     loop {
@@ -159,13 +148,9 @@ pub(crate) fn last_found<R: RowCalls>(
     requires range { IsNotEmpty range }
     requires can { CanRead (R.calls rows.old) p.now.table range.lo.number range.hi.number }
     ensures schema { R.defs rows.new ≡ R.defs rows.old }
-    ensures works { Works (R.calls rows.old) (R.calls rows.new) }
-    ensures runs { OnOk result (IsTrue (is_running (R.calls rows.new))) }
-    ensures end { IfErr result (Stops (R.calls rows.new)) }
-    ensures plain { IfOk result (λ found. OnTable (R.defs rows.old) p.now.table
-        (FoundLast (keys_at (R.defs rows.old) p.now.table) range p.now limit found.items)
-        (R.calls rows.old) (R.calls rows.new)) }
-    ensures sent { SendsNothing (R.calls rows.old) (R.calls rows.new) }
+    ensures read { Reads (R.defs rows.old) p.now.table
+        (λ found. FoundLast (keys_at (R.defs rows.old) p.now.table) range p.now limit found.items)
+        (R.calls rows.old) result (R.calls rows.new) }
 {
     let mut found = Vec::new(alloc);
     let mut rest = range;

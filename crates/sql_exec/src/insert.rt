@@ -8,9 +8,10 @@ ghost use Rattle.sql_check.specs.Columns.{def_at};
 ghost use Rattle.sql_check.specs.declared.plan.Plan.TheVariants.{Insert};
 ghost use Rattle.plain_model.specs.Calls.{is_running};
 ghost use Rattle.plain_model.specs.Runs.{Since};
-ghost use Rattle.sql_exec.specs.Bodies.{CanWrite, ChangesEnd, InsertsOne, PlanEnds, Works};
+ghost use Rattle.sql_exec.specs.Bodies.{CanWrite, InsertsOne, PlanEnds};
 ghost use Rattle.sql_exec.specs.Fits.{IsNamed};
-ghost use Rattle.sql_exec.specs.Means.{HasGiver, IsNotSpentReply, IsOwnOrBy, Stops};
+ghost use Rattle.sql_exec.specs.Means.{HasGiver, IsNotSpentReply, Stops};
+ghost use Rattle.sql_exec.specs.Parts.{Changed};
 ghost use Rattle.sql_exec.specs.Plays.{OnTable};
 ghost use Rattle.sql_exec.specs.Sends.{SendsOnly};
 
@@ -53,13 +54,8 @@ fn insert_all<R: RowCalls>(
     requires named { AllByRecursion (IsNamed (R.defs rows.old) p.now.table (Some range)) p.now.rows }
     requires can { CanWrite (R.calls rows.old) p.now.table range.lo.number range.hi.number }
     ensures schema { R.defs rows.new ≡ R.defs rows.old }
-    ensures works { Works (R.calls rows.old) (R.calls rows.new) }
-    ensures runs { OnOk result (IsTrue (is_running (R.calls rows.new))) }
-    ensures end { IfErr result (IsOwnOrBy (R.calls rows.new)) }
-    ensures plain { OnTable (R.defs rows.old) p.now.table
-        (ChangesEnd (def_at (R.defs rows.old) p.now.table) (Insert p.now) result)
-        (R.calls rows.old) (R.calls rows.new) }
-    ensures sent { SendsOnly p.now.rows [] (R.calls rows.old) (R.calls rows.new) }
+    ensures changed { Changed (R.defs rows.old) p.now.table (Insert p.now) (R.calls rows.old) result
+        (R.calls rows.new) }
 {
     let list = p.rows.as_slice();
     for row in list {

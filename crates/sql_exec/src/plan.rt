@@ -13,6 +13,7 @@ ghost use Rattle.sql_exec.specs.Means.{IsOwn};
 ghost use Rattle.sql_exec.specs.Plays.{OnTable};
 ghost use Rattle.sql_exec.specs.Sends.{PlanSends, Sends};
 
+use crate::act::ChangePlan;
 use crate::change::change;
 use crate::insert::insert;
 use crate::laws::plans_fit;
@@ -92,8 +93,8 @@ fn run_locked<R: RowCalls>(
         Plan::Insert(p) => insert(alloc, rows, p, name.range),
         Plan::Select(p) => select(alloc, rows, p, name.range),
         Plan::Totals(p) => total(alloc, rows, p, name.range),
-        Plan::Update(_) => change(alloc, rows, name.table, plan, name.range),
-        Plan::Delete(_) => change(alloc, rows, name.table, plan, name.range),
+        Plan::Update(p) => change(alloc, rows, name.table, ChangePlan::Update(p), name.range),
+        Plan::Delete(p) => change(alloc, rows, name.table, ChangePlan::Delete(p), name.range),
         Plan::Create => Ok(Reply::Done),
         Plan::Begin => Ok(Reply::Done),
         Plan::Commit => Ok(Reply::Done),

@@ -1,18 +1,16 @@
 // SELECT: the rows of a range that pass are collected, piece by piece, until there are enough.
-ghost use Rattle.std.specs.Prelude.{◌≡◌, ◌++◌, nat_le, false, IfErr, IfOk, IsTrue, OnOk, Some};
+ghost use Rattle.std.specs.Prelude.{◌≡◌, ◌++◌, nat_le, false, IfOk, OnOk, Some};
 ghost use Rattle.std.specs.Option.{option_map_or};
 ghost use Rattle.key_space.specs.Plays.{Rows};
 ghost use Rattle.key_space.specs.Ranges.{IsNotEmpty};
 ghost use Rattle.row_types.specs.Schema.{keys_at};
 ghost use Rattle.sql_check.specs.Columns.{def_at};
 ghost use Rattle.sql_check.specs.declared.plan.Plan.TheVariants.{Select};
-ghost use Rattle.plain_model.specs.Calls.{is_running};
-ghost use Rattle.sql_exec.specs.Bodies.{CanRead, PlanEnds, Works};
+ghost use Rattle.sql_exec.specs.Bodies.{CanRead};
 ghost use Rattle.sql_exec.specs.Fits.{NamesKept};
-ghost use Rattle.sql_exec.specs.Means.{IsNoLackReply, IsNotSpentReply, Stops};
-ghost use Rattle.sql_exec.specs.Plays.{OnTable};
+ghost use Rattle.sql_exec.specs.Means.{IsNoLackReply, IsNotSpentReply};
+ghost use Rattle.sql_exec.specs.Parts.{PlanReplies, Reads};
 ghost use Rattle.sql_exec.specs.Selects.{Found, FoundInOrder, shown_of};
-ghost use Rattle.sql_exec.specs.Sends.{SendsNothing};
 
 use crate::OutOfMemory;
 use crate::falling::last_found;
@@ -66,13 +64,9 @@ fn found_in<R: RowCalls>(
     requires range { IsNotEmpty range }
     requires can { CanRead (R.calls rows.old) p.now.table range.lo.number range.hi.number }
     ensures schema { R.defs rows.new ≡ R.defs rows.old }
-    ensures works { Works (R.calls rows.old) (R.calls rows.new) }
-    ensures runs { OnOk result (IsTrue (is_running (R.calls rows.new))) }
-    ensures end { IfErr result (Stops (R.calls rows.new)) }
-    ensures plain { IfOk result (λ found. OnTable (R.defs rows.old) p.now.table
-        (Found (keys_at (R.defs rows.old) p.now.table) range p.now wanted found.items)
-        (R.calls rows.old) (R.calls rows.new)) }
-    ensures sent { SendsNothing (R.calls rows.old) (R.calls rows.new) }
+    ensures read { Reads (R.defs rows.old) p.now.table
+        (λ found. Found (keys_at (R.defs rows.old) p.now.table) range p.now wanted found.items)
+        (R.calls rows.old) result (R.calls rows.new) }
 {
     let mut found = Vec::new(alloc);
     let mut rest = range;
@@ -99,13 +93,9 @@ fn shown_in<R: RowCalls>(
     requires range { IsNotEmpty range }
     requires can { CanRead (R.calls rows.old) p.now.table range.lo.number range.hi.number }
     ensures schema { R.defs rows.new ≡ R.defs rows.old }
-    ensures works { Works (R.calls rows.old) (R.calls rows.new) }
-    ensures runs { OnOk result (IsTrue (is_running (R.calls rows.new))) }
-    ensures end { IfErr result (Stops (R.calls rows.new)) }
-    ensures plain { IfOk result (λ found. OnTable (R.defs rows.old) p.now.table
-        (FoundInOrder (keys_at (R.defs rows.old) p.now.table) range p.now found.items)
-        (R.calls rows.old) (R.calls rows.new)) }
-    ensures sent { SendsNothing (R.calls rows.old) (R.calls rows.new) }
+    ensures read { Reads (R.defs rows.old) p.now.table
+        (λ found. FoundInOrder (keys_at (R.defs rows.old) p.now.table) range p.now found.items)
+        (R.calls rows.old) result (R.calls rows.new) }
 {
     if !p.is_falling {
         return found_in(alloc, rows, p, range, p.limit);
@@ -131,15 +121,11 @@ pub(crate) fn select<R: RowCalls>(
     requires can { CanRead (R.calls rows.old) p.now.table range.lo.number range.hi.number }
     requires kept { NamesKept (R.defs rows.old) p.now.table (Some range) p.now.conditions }
     ensures schema { R.defs rows.new ≡ R.defs rows.old }
-    ensures works { Works (R.calls rows.old) (R.calls rows.new) }
-    ensures runs { OnOk result (IsTrue (is_running (R.calls rows.new))) }
-    ensures end { IfErr result (Stops (R.calls rows.new)) }
-    ensures plain { OnTable (R.defs rows.old) p.now.table
-        (PlanEnds (def_at (R.defs rows.old) p.now.table) (Select p.now) result)
-        (R.calls rows.old) (R.calls rows.new) }
+    ensures read { Reads (R.defs rows.old) p.now.table
+        (PlanReplies (def_at (R.defs rows.old) p.now.table) (Select p.now))
+        (R.calls rows.old) result (R.calls rows.new) }
     ensures own { IfOk result IsNoLackReply }
     ensures spent { IfOk result IsNotSpentReply }
-    ensures sent { SendsNothing (R.calls rows.old) (R.calls rows.new) }
 {
     let found = shown_in(alloc, rows, p, range)?;
     Ok(Reply::Rows(Items::from_vec(found)))

@@ -1,19 +1,17 @@
 // SELECT of totals: sums over the rows of a range that pass, piece by piece. No row is kept.
-ghost use Rattle.std.specs.Prelude.{◌≡◌, ◌<◌, ◌++◌, ◌+ℤ◌, pos, [], map, length, false, IfErr};
-ghost use Rattle.std.specs.Prelude.{IfOk, IfSome, IsTrue, OnOk, None, Some, true};
+ghost use Rattle.std.specs.Prelude.{◌≡◌, ◌<◌, ◌++◌, ◌+ℤ◌, pos, [], map, length, false, IfOk};
+ghost use Rattle.std.specs.Prelude.{IfSome, None, Some, true};
 ghost use Rattle.std.specs.List.{Any};
 ghost use Rattle.key_space.specs.Plays.{Rows};
 ghost use Rattle.key_space.specs.Ranges.{IsNotEmpty};
 ghost use Rattle.sql_check.specs.Columns.{def_at};
 ghost use Rattle.sql_check.specs.declared.plan.Plan.TheVariants.{Totals};
-ghost use Rattle.plain_model.specs.Calls.{is_running};
 ghost use Rattle.plain_model.specs.Meaning.{totals_reply};
-ghost use Rattle.sql_exec.specs.Bodies.{CanRead, PlanEnds, Works};
+ghost use Rattle.sql_exec.specs.Bodies.{CanRead};
 ghost use Rattle.sql_exec.specs.Fits.{IsOfInts, NamesKept};
-ghost use Rattle.sql_exec.specs.Means.{IsNoLackReply, IsNotSpentReply, Stops};
-ghost use Rattle.sql_exec.specs.Plays.{OnTable};
+ghost use Rattle.sql_exec.specs.Means.{IsNoLackReply, IsNotSpentReply};
+ghost use Rattle.sql_exec.specs.Parts.{PlanReplies, Reads};
 ghost use Rattle.sql_exec.specs.Selects.{part_of, sums_of, with_row_added, IsOver, GoesOver};
-ghost use Rattle.sql_exec.specs.Sends.{SendsNothing};
 
 use crate::OutOfMemory;
 use crate::values::passes_all;
@@ -122,15 +120,11 @@ pub(crate) fn total<R: RowCalls>(
     requires ints { IsOfInts (Some range) }
     requires table { p.now.table < length (R.defs rows.old) }
     ensures schema { R.defs rows.new ≡ R.defs rows.old }
-    ensures works { Works (R.calls rows.old) (R.calls rows.new) }
-    ensures runs { OnOk result (IsTrue (is_running (R.calls rows.new))) }
-    ensures end { IfErr result (Stops (R.calls rows.new)) }
-    ensures plain { OnTable (R.defs rows.old) p.now.table
-        (PlanEnds (def_at (R.defs rows.old) p.now.table) (Totals p.now) result)
-        (R.calls rows.old) (R.calls rows.new) }
+    ensures read { Reads (R.defs rows.old) p.now.table
+        (PlanReplies (def_at (R.defs rows.old) p.now.table) (Totals p.now))
+        (R.calls rows.old) result (R.calls rows.new) }
     ensures own { IfOk result IsNoLackReply }
     ensures spent { IfOk result IsNotSpentReply }
-    ensures sent { SendsNothing (R.calls rows.old) (R.calls rows.new) }
 {
     let mut sums = zeros(alloc, p.totals.as_slice())?;
     let mut rest = range;

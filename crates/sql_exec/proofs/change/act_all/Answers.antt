@@ -7,17 +7,17 @@ use Rattle.sql_exec.specs.Sends.{SendsOnly}
 use Rattle.sql_exec.specs.Acts.{act_of}
 use Rattle.sql_exec.specs.Bodies.{here}
 use Rattle.sql_exec.specs.Pieces.{ActsOne, ActsAll}
-use Rattle.sql_exec.proofs.Acting.{acts_can, acts_works, count_more, did_sends, few_more, good_more, puts, takes, sends_more, sends_part}
+use Rattle.sql_exec.proofs.Acting.{acts_can, acts_forward, count_more, did_sends, few_more, good_more, puts, takes, sends_more, sends_part}
 use Rattle.sql_exec.proofs.OneTable.{stays}
 use Rattle.sql_exec.proofs.Turning.{list_more, list_refused, list_stops, stops_sent}
-use Rattle.sql_exec.proofs.Working.{works_on, works_since}
+use Rattle.sql_exec.proofs.Forward.{forward_on, forward_since}
 use Rattle.sql_exec.proofs.change.act_all.Goals.{then-is_done, else-is_done}
 use Rattle.sql_exec.proofs.change.act_all.Goals as goal
 
 pub loop-row-init : goal.loop-row-init
 loop-row-init g c = record {
   schema = refl;
-  works = here;
+  forward = here;
   can = c.requires.can;
   few = omega arith;
   good = refl;
@@ -32,7 +32,7 @@ loop-row-preserved g c =
     let defs = g.R.RowCalls.defs c.args.rows.now in
     let n = c.args.table in
     let marks = keys_at defs n in
-    let act = act_of c.args.plan.now in
+    let act = act_of c.args.plan in
     let start = calls c.args.rows.now in
     let old = calls c.loop-row.rows in
     let new = calls c.act.new.rows in
@@ -45,36 +45,36 @@ loop-row-preserved g c =
     let d = c.in-Some.is_done in
     let acts : ActsOne marks n (act row) row old (Ok (Some d)) new =
     subst (λ (ds : List TableDef). ActsOne (keys_at ds n) n (act row) row old (Ok (Some d)) new) inv.schema (subst (λ (o : Option Bool). ActsOne (keys_at (g.R.RowCalls.defs c.loop-row.rows) n) n (act row) row old (Ok o) new) c.in-Some.is c.in_ok-is_done.ensures.calls) in
-    let works = acts_works marks n (act row) row old (Ok (Some d)) new acts in
+    let forward = acts_forward marks n (act row) row old (Ok (Some d)) new acts in
     let sum : c.if-is_done.count ≡ c.loop-row.count + cond d 1 0 = elim c.if-is_done.branch [
       | then-is_done w ↦ w.count-is ∙ rw w.if-is_done.true refl
       | else-is_done w ↦ w.count-is ∙ rw w.if-is_done.false (omega arith)
     ] in
     record {
       schema = c.in_ok-is_done.ensures.schema ∙ inv.schema;
-      works = works_on start old new inv.works works;
+      forward = forward_on start old new inv.forward forward;
       can = acts_can marks n (act row) row c.args.range.lo.number c.args.range.hi.number old (Some d) new acts inv.can;
       few = few_more d c.loop-row.count _ i inv.few sum;
       good = good_more marks act list i row less at inv.good acts.1;
       count = count_more marks act list i row less at c.loop-row.count _ d inv.count acts.0 sum;
-      plain = list_more defs n act list i row less at start old new inv.plain acts.2 (works_since old new works);
+      plain = list_more defs n act list i row less at start old new inv.plain acts.2 (forward_since old new forward);
       sent = sends_more marks act list i row less at start old new inv.sent (did_sends marks n (act row) row old new acts.2);
     }
 
-pub returns-in_err-is_done-clause-works : goal.returns-in_err-is_done-clause-works
-returns-in_err-is_done-clause-works g c =
+pub returns-in_err-is_done-clause-forward : goal.returns-in_err-is_done-clause-forward
+returns-in_err-is_done-clause-forward g c =
     let calls = g.R.RowCalls.calls in
     let n = c.args.table in
     let row = c.row-item.result in
-    works_on (calls c.args.rows.now) (calls c.loop-row.rows) (calls c.act.new.rows) c.loop-row.invariant.works
-    (acts_works (keys_at (g.R.RowCalls.defs c.loop-row.rows) n) n (act_of c.args.plan.now row) row (calls c.loop-row.rows) (Err c.in_err-is_done.field-0.0) (calls c.act.new.rows) c.in_err-is_done.ensures.calls)
+    forward_on (calls c.args.rows.now) (calls c.loop-row.rows) (calls c.act.new.rows) c.loop-row.invariant.forward
+    (acts_forward (keys_at (g.R.RowCalls.defs c.loop-row.rows) n) n (act_of c.args.plan row) row (calls c.loop-row.rows) (Err c.in_err-is_done.field-0.0) (calls c.act.new.rows) c.in_err-is_done.ensures.calls)
 
 pub returns-in_err-is_done-clause-acts : goal.returns-in_err-is_done-clause-acts
 returns-in_err-is_done-clause-acts g c =
     let calls = g.R.RowCalls.calls in
     let defs = g.R.RowCalls.defs c.args.rows.now in
     let n = c.args.table in
-    let act = act_of c.args.plan.now in
+    let act = act_of c.args.plan in
     let start = calls c.args.rows.now in
     let old = calls c.loop-row.rows in
     let new = calls c.act.new.rows in
@@ -87,7 +87,7 @@ returns-in_err-is_done-clause-acts g c =
     let stop : Stop = c.in_err-is_done.field-0.0 in
     let is : c.from_residual.result ≡ Err stop = search rules in
     let acts : ActsOne (keys_at defs n) n (act row) row old (Err stop) new = subst (λ (ds : List TableDef). ActsOne (keys_at ds n) n (act row) row old (Err stop) new) inv.schema c.in_err-is_done.ensures.calls in
-    subst (λ (r : Result (Option ℕ) Stop). ActsAll defs n c.args.plan.now list start r new) (sym is) (record {
+    subst (λ (r : Result (Option ℕ) Stop). ActsAll defs n c.args.plan list start r new) (sym is) (record {
       plain = list_stops defs n act list i row less at start old new stop acts inv.plain inv.good;
       sent = stops_sent defs n act list i row less at start old new stop acts inv.sent;
     })
@@ -98,7 +98,7 @@ returns-in_default-clause-acts g c =
     let defs = g.R.RowCalls.defs c.args.rows.now in
     let n = c.args.table in
     let marks = keys_at defs n in
-    let act = act_of c.args.plan.now in
+    let act = act_of c.args.plan in
     let start = calls c.args.rows.now in
     let old = calls c.loop-row.rows in
     let new = calls c.act.new.rows in

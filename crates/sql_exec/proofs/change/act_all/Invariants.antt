@@ -2,7 +2,7 @@ use Rattle.std.proofs.Common.{◌≡◌, ◌≤◌, false, take}
 use Rattle.std.specs.List.{flat_map}
 use Rattle.row_types.specs.Schema.{keys_at}
 use Rattle.sql_exec.specs.Acts.{act_of, done_count, effects, put_by, some_refused, taken_by}
-use Rattle.sql_exec.specs.Bodies.{CanWrite, Works}
+use Rattle.sql_exec.specs.Bodies.{CanWrite, OnlyForward}
 use Rattle.sql_exec.specs.Pieces.{SendsAll}
 use Rattle.sql_exec.specs.Plays.{OnTable}
 use Rattle.sql_exec.proofs.change.act_all.Given as goal
@@ -15,7 +15,7 @@ invariant-loop-row g l =
     let act = act_of l.plan in
     let done = take l.row-index l.piece in record {
       schema : g.R.RowCalls.defs l.rows ≡ defs;
-      works : Works (calls l.fn.rows) (calls l.rows);
+      forward : OnlyForward (calls l.fn.rows) (calls l.rows);
       can : CanWrite (calls l.rows) l.table l.fn.range.lo.number l.fn.range.hi.number;
       few : l.count ≤ l.row-index;
       good : some_refused act done ≡ false;

@@ -1,4 +1,4 @@
-use Rattle.std.proofs.Common.{◌≡◌, ◌∷◌, List, ap, refl, sym, take, ◌∙◌}
+use Rattle.std.proofs.Common.{◌∷◌, List, ap, refl, sym, take, ◌∙◌}
 use Rattle.row_types.specs.declared.row.Value.{Value}
 use Rattle.key_space.specs.Plays.{Rows}
 use Rattle.sql_check.specs.declared.plan.Test.{Test}

@@ -10,7 +10,7 @@ use Rattle.sql_exec.specs.Bodies.{ChangesEnd}
 use Rattle.sql_exec.specs.Plays.{OnTable}
 use Rattle.sql_exec.specs.Sends.{SendsOnly}
 use Rattle.sql_exec.proofs.Settling.{no_mark, plan_ends, settled_only, settled_since}
-use Rattle.sql_exec.proofs.Working.{mark_works, works_since}
+use Rattle.sql_exec.proofs.Forward.{mark_forward, forward_since}
 use Rattle.sql_exec.proofs.insert.insert.Goals as goal
 
 pub returns-in_err-mark-clause-since : goal.returns-in_err-mark-clause-since
@@ -27,13 +27,13 @@ returns-in_err-mark-clause-plain g c =
 pub settle-requires-clause-mark : goal.settle-requires-clause-mark
 settle-requires-clause-mark g c =
     let calls = g.R.RowCalls.calls in
-    mark_works (calls c.mark.new.self) (calls c.insert_all-changes.new.rows) _ (c.in_ok-mark.ensures.mark ∙ ap op_count (sym c.in_ok-mark.ensures.told)) c.insert_all-changes.ensures.works
+    mark_forward (calls c.mark.new.self) (calls c.insert_all-changes.new.rows) _ (c.in_ok-mark.ensures.mark ∙ ap op_count (sym c.in_ok-mark.ensures.told)) c.insert_all-changes.ensures.changed.forward
 
 pub returns-clause-since : goal.returns-clause-since
 returns-clause-since g c =
     let calls = g.R.RowCalls.calls in
     let mid = calls c.insert_all-changes.new.rows in
-    let body = subst (λ (start : List Call). Since start mid) c.in_ok-mark.ensures.told (works_since (calls c.mark.new.self) mid c.insert_all-changes.ensures.works) in
+    let body = subst (λ (start : List Call). Since start mid) c.in_ok-mark.ensures.told (forward_since (calls c.mark.new.self) mid c.insert_all-changes.ensures.changed.forward) in
     since_joined (calls c.args.rows.now) mid (calls c.settle.new.rows) body (settled_since _ _ mid _ (calls c.settle.new.rows) c.settle.ensures.calls)
 
 pub returns-clause-plain : goal.returns-clause-plain
@@ -44,14 +44,14 @@ returns-clause-plain g c =
     let start = calls c.args.rows.now in
     let mid = calls c.insert_all-changes.new.rows in
     let told = c.in_ok-mark.ensures.told in
-    let since = subst (λ (from : List Call). Since from mid) told (works_since (calls c.mark.new.self) mid c.insert_all-changes.ensures.works) in
+    let since = subst (λ (from : List Call). Since from mid) told (forward_since (calls c.mark.new.self) mid c.insert_all-changes.ensures.changed.forward) in
     let body = subst (λ (from : List Call). OnTable defs n (ChangesEnd (def_at defs n) (Insert c.args.p.now) c.insert_all-changes.result) from mid) told
-    (subst (λ (ds : List TableDef). OnTable ds n (ChangesEnd (def_at ds n) (Insert c.args.p.now) c.insert_all-changes.result) (calls c.mark.new.self) mid) c.in_ok-mark.ensures.schema c.insert_all-changes.ensures.plain) in
+    (subst (λ (ds : List TableDef). OnTable ds n (ChangesEnd (def_at ds n) (Insert c.args.p.now) c.insert_all-changes.result) (calls c.mark.new.self) mid) c.in_ok-mark.ensures.schema c.insert_all-changes.ensures.changed.plain) in
     plan_ends defs n (def_at defs n) (Insert c.args.p.now) _ c.insert_all-changes.result start mid c.settle.result (calls c.settle.new.rows) c.in_ok-mark.ensures.mark since c.settle.ensures.calls body
 
 pub returns-clause-sent : goal.returns-clause-sent
 returns-clause-sent g c =
     let calls = g.R.RowCalls.calls in
     let mid = calls c.insert_all-changes.new.rows in
-    let body = subst (λ (from : List Call). SendsOnly c.args.p.now.rows [] from mid) c.in_ok-mark.ensures.told c.insert_all-changes.ensures.sent in
+    let body = subst (λ (from : List Call). SendsOnly c.args.p.now.rows [] from mid) c.in_ok-mark.ensures.told c.insert_all-changes.ensures.changed.sent in
     settled_only c.args.p.now.rows [] _ c.insert_all-changes.result (calls c.args.rows.now) mid c.settle.result (calls c.settle.new.rows) c.settle.ensures.calls body

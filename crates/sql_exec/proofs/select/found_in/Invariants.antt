@@ -1,26 +1,13 @@
-use Rattle.std.proofs.Common.{◌≡◌, ◌≤◌, ◌-◌}
-use Rattle.row_types.specs.Schema.{keys_at}
-use Rattle.sql_exec.specs.Acts.{rows_in}
-use Rattle.sql_exec.specs.Bodies.{CanRead, Works}
-use Rattle.sql_exec.specs.Plays.{OnTable}
+use Rattle.std.proofs.Common.{◌≡◌, ◌-◌}
 use Rattle.sql_exec.specs.Selects.{shown_of}
-use Rattle.sql_exec.specs.Sends.{SendsNothing}
+use Rattle.sql_exec.proofs.ReadLoops.{ReadSoFar}
 use Rattle.sql_exec.proofs.select.found_in.Given as goal
 
 abbrev pub invariant-loop-found : goal.invariant-loop-found
-invariant-loop-found g l =
-    let calls = g.R.RowCalls.calls in
-    let defs = g.R.RowCalls.defs l.fn.rows in
-    let n = l.p.table in record {
-      schema : g.R.RowCalls.defs l.rows ≡ defs;
-      works : Works (calls l.fn.rows) (calls l.rows);
-      can : CanRead (calls l.rows) n l.rest.lo.number l.rest.hi.number;
-      low : l.fn.range.lo.number ≤ l.rest.lo.number;
-      some : l.rest.lo.number ≤ l.rest.hi.number;
-      high : l.rest.hi.number ≡ l.fn.range.hi.number;
-      plain : OnTable defs n (λ r s. (l.found.items ≡ shown_of l.p l.wanted (rows_in (keys_at defs n) l.fn.range.lo.number l.rest.lo.number r)) × (s ≡ r)) (calls l.fn.rows) (calls l.rows);
-      sent : SendsNothing (calls l.fn.rows) (calls l.rows);
-    }
+invariant-loop-found g l = record {
+  schema : g.R.RowCalls.defs l.rows ≡ g.R.RowCalls.defs l.fn.rows;
+  so_far : ReadSoFar (g.R.RowCalls.defs l.fn.rows) l.p.table l.fn.range l.rest (λ rows. l.found.items ≡ shown_of l.p l.wanted rows) (g.R.RowCalls.calls l.fn.rows) (g.R.RowCalls.calls l.rows);
+}
 
 abbrev pub decreases-loop-found : goal.decreases-loop-found
 decreases-loop-found g l = l.rest.hi.number - l.rest.lo.number
