@@ -270,3 +270,111 @@ fn refused_statements_are_undone(rt: HostRuntime) -> Result<(), Fail> {
     assert!(rt; wrong.is_none(), "{wrong:?}");
     Ok(())
 }
+
+#[test]
+fn statements_about_no_key_find_nothing(rt: HostRuntime) -> Result<(), Fail> {
+    let blocks = [
+        ("INSERT INTO kv VALUES (1, 10), (2, 20)", "ok 2"),
+        ("SELECT * FROM kv WHERE id = 1 AND id = 2", "rows 0"),
+        (
+            "SELECT COUNT(*) FROM kv WHERE id = 1 AND id = 2",
+            "0 / rows 1",
+        ),
+        (
+            "SELECT SUM(n), SUM(id), COUNT(*) FROM kv WHERE id > 3 AND id < 2",
+            "0, 0, 0 / rows 1",
+        ),
+        ("UPDATE kv SET n = 0 WHERE id = 1 AND id = 2", "ok 0"),
+        ("DELETE FROM kv WHERE id = 1 AND id = 2", "ok 0"),
+        (
+            "BEGIN; UPDATE kv SET n = 0 WHERE id < 1 AND id > 1; DELETE FROM kv WHERE id > 3 AND id < 2; COMMIT",
+            "ok / ok 0 / ok 0 / ok",
+        ),
+        ("SELECT n FROM kv", "10 / 20 / rows 2"),
+    ];
+    let wrong = wrong_in_pieces(rt.alloc(), KV, &blocks)?;
+    assert!(rt; wrong.is_none(), "{wrong:?}");
+    Ok(())
+}
+
+#[test]
+fn rows_and_statements_of_many_columns(rt: HostRuntime) -> Result<(), Fail> {
+    let creates =
+        "CREATE TABLE wide (id INT PRIMARY KEY, a INT, b INT, c INT, d INT, e INT, f INT, g INT, h INT, i INT)";
+    let blocks = [
+        (
+            "INSERT INTO wide VALUES (1, 2, 3, 4, 5, 6, 7, 8, 9, 10)",
+            "ok 1",
+        ),
+        (
+            "SELECT * FROM wide",
+            "1, 2, 3, 4, 5, 6, 7, 8, 9, 10 / rows 1",
+        ),
+        (
+            "UPDATE wide SET a = b, b = a, c = 40, d = 50, e = 60, f = 70, g = 80, h = 90, i = i + 90",
+            "ok 1",
+        ),
+        (
+            "SELECT * FROM wide ORDER BY id DESC LIMIT 1",
+            "1, 3, 2, 40, 50, 60, 70, 80, 90, 100 / rows 1",
+        ),
+        (
+            "SELECT SUM(a), SUM(b), SUM(c), SUM(d), SUM(e), SUM(f), SUM(g), SUM(h), SUM(i) FROM wide",
+            "3, 2, 40, 50, 60, 70, 80, 90, 100 / rows 1",
+        ),
+    ];
+    let wrong = wrong_in_pieces(rt.alloc(), creates, &blocks)?;
+    assert!(rt; wrong.is_none(), "{wrong:?}");
+    Ok(())
+}
+
+#[test]
+fn a_block_of_four_statements_that_is_cut_off_is_undone(rt: HostRuntime) -> Result<(), Fail> {
+    let blocks = [
+        ("INSERT INTO kv VALUES (1, 10), (2, 20)", "ok 2"),
+        (
+            "BEGIN; INSERT INTO kv VALUES (3, 30); UPDATE kv SET n = n + 1; DELETE FROM kv WHERE id = 1",
+            "ok / ok 1 / ok 3 / ok 1",
+        ),
+        ("SELECT n FROM kv", "10 / 20 / rows 2"),
+    ];
+    let wrong = wrong_in_pieces(rt.alloc(), KV, &blocks)?;
+    assert!(rt; wrong.is_none(), "{wrong:?}");
+    Ok(())
+}
+
+/// A statement with a text of so many bytes in it.
+fn with_text(alloc: Global, front: &str, bytes: usize, end: &str) -> Result<String, Fail> {
+    let mut text = String::from_str(alloc, front)?;
+    for _ in 0..bytes {
+        text.push_str("x")?;
+    }
+    text.push_str(end)?;
+    Ok(text)
+}
+
+#[test]
+fn long_texts_are_set_or_refused(rt: HostRuntime) -> Result<(), Fail> {
+    let alloc = rt.alloc();
+    let creates = "CREATE TABLE b (id INT PRIMARY KEY, t TEXT(200))";
+    let added = with_text(alloc, "INSERT INTO b VALUES (2, '", 200, "')")?;
+    let set = with_text(alloc, "UPDATE b SET t = '", 200, "' WHERE id = 1")?;
+    let found = with_text(alloc, "SELECT id FROM b WHERE t = '", 200, "'")?;
+    let too_long = with_text(alloc, "INSERT INTO b VALUES (3, '", 400, "')")?;
+    let set_too_long = with_text(alloc, "UPDATE b SET t = '", 400, "' WHERE id = 1")?;
+    let unread = with_text(alloc, "SELEC * FROM b WHERE t = '", 400, "'")?;
+    let refused = "Length { given: 400, limit: 200 }";
+    let blocks = [
+        ("INSERT INTO b VALUES (1, 'a')", "ok 1"),
+        (added.as_str(), "ok 1"),
+        (set.as_str(), "ok 1"),
+        (found.as_str(), "1 / 2 / rows 2"),
+        (too_long.as_str(), refused),
+        (set_too_long.as_str(), refused),
+        (unread.as_str(), "Syntax { at: 0 }"),
+        ("SELECT COUNT(*) FROM b", "2 / rows 1"),
+    ];
+    let wrong = wrong_in_pieces(alloc, creates, &blocks)?;
+    assert!(rt; wrong.is_none(), "{wrong:?}");
+    Ok(())
+}
