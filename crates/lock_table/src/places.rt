@@ -59,7 +59,7 @@ fn stands_up_to(h: &Held, table: u16, key: u128) -> bool
     ensures { result ≡ nat_lt (rank_of (Some h.now)) (rank table key (2 ^ 16)) }
 {
     let from = h.name.range.lo.number;
-    let who = h.who;
+    let _who = h.who;
     if h.name.table != table {
         return h.name.table < table;
     }
