@@ -103,7 +103,7 @@ want_transfers() {
 }
 
 # A read, a write or a print that takes a part is followed by one for the rest. strace doesn't make the call, and says
-# that so many bytes were taken.
+# that so many bytes were taken: those of the read are zeros, so the gate of the row counts as closed.
 check_short_calls() {
     local folder calls=openat,statx,pread64,pwrite64,fdatasync,close
     if ! can_trace; then
@@ -112,14 +112,15 @@ check_short_calls() {
     fi
     folder_with_row
     run_traced "$folder" "$one_insert" "$folder/lane0.even" "trace=$calls" -e inject=pwrite64:retval=5:when=2
-    want_transfers 'pread64 1 0' 'pread64 37 0' 'pwrite64 1 0' fdatasync 'pread64 1 0' 'pread64 8 1' 'pread64 2 9' \
+    want_transfers 'pread64 1 0' 'pread64 37 0' 'pwrite64 1 0' fdatasync 'pread64 11 0' \
         'pread64 26 11' 'pwrite64 25 37' 'pwrite64 20 42' fdatasync 'pwrite64 1 36' fdatasync
     end_case 'short write'
 
     folder_with_row
     run_traced "$folder" "$one_insert" "$folder/lane0.even" "trace=$calls" -e inject=pread64:retval=3:when=4
-    want_transfers 'pread64 1 0' 'pread64 37 0' 'pwrite64 1 0' fdatasync 'pread64 1 0' 'pread64 8 1' 'pread64 5 4'
-    want_status 8
+    want_transfers 'pread64 1 0' 'pread64 37 0' 'pwrite64 1 0' fdatasync 'pread64 11 0' \
+        'pread64 26 11' 'pread64 23 14' 'pwrite64 25 12' fdatasync 'pwrite64 1 11' fdatasync
+    want_status 0
     end_case 'short read'
 
     new_folder
