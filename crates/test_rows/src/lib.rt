@@ -11,4 +11,6 @@ mod pages;
 #[cfg(test)]
 mod records;
 #[cfg(test)]
+mod replay;
+#[cfg(test)]
 mod rows;
