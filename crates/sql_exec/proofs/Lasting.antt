@@ -1,5 +1,5 @@
 -- What is shown of the last rows of a range, window by window from its upper end on.
-use Rattle.std.proofs.Common.{◌≡◌, ℕ, zero, suc, ◌+◌, ◌-◌, ◌<◌, ◌≤◌, min, Bool, true, false, cond, List, [], ◌∷◌, ◌++◌, length, map, take, get_or, reverse, refl, sym, ap, subst, ◌∙◌, arith, Some, Result, Ok}
+use Rattle.std.proofs.Common.{append_assoc, ◌≡◌, ℕ, zero, suc, ◌+◌, ◌-◌, ◌<◌, ◌≤◌, min, Bool, true, false, cond, List, [], ◌∷◌, ◌++◌, length, map, take, get_or, reverse, refl, sym, ap, subst, ◌∙◌, arith, Some, Result, Ok}
 use Rattle.std.specs.List.{filter}
 use Rattle.std.proofs.Math.Seq.{take-append-add}
 use Rattle.std.proofs.lemmas.List.{append-nil, length-map, length-take, map-append, reverse-append, take_all, take-append-le, take-map}
@@ -62,11 +62,11 @@ module _ (p : SelectPlan) where
       ap (λ (l : Rows). map (in_columns p.columns) (take wanted (reverse l))) (sym (none_kept p row rows fails ∙ append-nil (passing p rows)))
 
   -- one step through the rows of a piece
-  pub last_collected : (wanted : ℕ) (before piece : Rows) (i : ℕ) (row : List Value) (found next : Rows) → i < length piece → row ≡ get_or piece i row → found ≡ last_shown p wanted (before ++ take i piece)
-      → next ≡ cond (passes_all p.conditions row) (take wanted (in_columns p.columns row ∷ found)) found → next ≡ last_shown p wanted (before ++ take (i + 1) piece)
-  last_collected wanted before piece i row found next less at so_far is =
+  pub last_collected : (wanted : ℕ) (before seen : Rows) (row : List Value) (found next : Rows) → found ≡ last_shown p wanted (before ++ seen)
+      → next ≡ cond (passes_all p.conditions row) (take wanted (in_columns p.columns row ∷ found)) found → next ≡ last_shown p wanted (before ++ (seen ++ row ∷ []))
+  last_collected wanted before seen row found next so_far is =
       is ∙ ap (λ (l : Rows). cond (passes_all p.conditions row) (take wanted (in_columns p.columns row ∷ l)) l) so_far
-      ∙ last_more wanted (before ++ take i piece) row (passes_all p.conditions row) refl ∙ ap (last_shown p wanted) (front_more piece i row less at before)
+      ∙ last_more wanted (before ++ seen) row (passes_all p.conditions row) refl ∙ ap (last_shown p wanted) (append_assoc before seen (row ∷ []))
 
   turned_on : (below above : Rows) → turned (below ++ above) ≡ turned above ++ turned below
   turned_on below above = ap reverse (filter-append (passes_all p.conditions) below above) ∙ reverse-append (passing p below) (passing p above)

@@ -9,6 +9,7 @@ pub mod Inserting
 pub mod Kept
 pub mod Keyless
 pub mod Lasting
+pub mod Moving
 pub mod Naming
 pub mod OneTable
 pub mod PieceLaws

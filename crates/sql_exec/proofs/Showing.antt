@@ -11,7 +11,6 @@ use Rattle.key_space.specs.Plays.{Rows}
 use Rattle.sql_check.specs.declared.plan.SelectPlan.{SelectPlan}
 use Rattle.plain_model.specs.Meaning.{limited}
 use Rattle.plain_model.specs.PlanMeaning.{passes_all}
-use Rattle.sql_exec.proofs.Fronts.{front_more}
 use Rattle.sql_exec.specs.Selects.{in_columns, shown_of}
 
 abbrev pub enough : Option ℕ → ℕ → Bool
@@ -57,21 +56,18 @@ module _ (p : SelectPlan) where
       sym (ap (λ (kept : Rows). map (in_columns p.columns) (limited wanted kept)) (none_kept row rows fails ∙ append-nil (passing rows)))
 
   -- one step through the rows of a piece
-  pub collected : (wanted : Option ℕ) (before piece : Rows) (i : ℕ) (row : List Value) (found next : List (List Value)) → i < length piece → row ≡ get_or piece i row → found ≡ shown_of p wanted (before ++ take i piece)
-      → enough wanted (length found) ≡ false → next ≡ cond (passes_all p.conditions row) (found ++ in_columns p.columns row ∷ []) found
-      → next ≡ shown_of p wanted (before ++ take (i + 1) piece)
-  collected wanted before piece i row found next less at so_far few is =
-      let rows = before ++ take i piece in
-      let all = front_more piece i row less at before in
+  pub collected : (wanted : Option ℕ) (before seen : Rows) (row : List Value) (found next : List (List Value)) → found ≡ shown_of p wanted (before ++ seen) → enough wanted (length found) ≡ false
+      → next ≡ cond (passes_all p.conditions row) (found ++ in_columns p.columns row ∷ []) found → next ≡ shown_of p wanted (before ++ (seen ++ row ∷ []))
+  collected wanted before seen row found next so_far few is =
       is ∙ ap (λ (l : List (List Value)). cond (passes_all p.conditions row) (l ++ in_columns p.columns row ∷ []) l) so_far
-      ∙ shown_more wanted rows row (subst (λ (l : List (List Value)). enough wanted (length l) ≡ false) so_far few) (passes_all p.conditions row) refl ∙ ap (shown_of p wanted) all
+      ∙ shown_more wanted (before ++ seen) row (subst (λ (l : List (List Value)). enough wanted (length l) ≡ false) so_far few) (passes_all p.conditions row) refl
+      ∙ ap (shown_of p wanted) (append_assoc before seen (row ∷ []))
 
-  -- the rest of a piece adds none where there are enough
-  pub collected_all : (wanted : Option ℕ) (before piece : Rows) (i : ℕ) (found : List (List Value)) → found ≡ shown_of p wanted (before ++ take i piece) → enough wanted (length found) ≡ true → found ≡ shown_of p wanted (before ++ piece)
-  collected_all wanted before piece i found so_far many =
-      let rows = before ++ take i piece in
-      let all : rows ++ drop i piece ≡ before ++ piece = append_assoc before (take i piece) (drop i piece) ∙ ap (λ (l : Rows). before ++ l) (take-append-drop i piece) in
-      so_far ∙ sym (shown_enough wanted rows (drop i piece) (subst (λ (l : List (List Value)). enough wanted (length l) ≡ true) so_far many)) ∙ ap (shown_of p wanted) all
+  -- a row adds none where there are enough
+  pub collected_enough : (wanted : Option ℕ) (before seen : Rows) (row : List Value) (found : List (List Value)) → found ≡ shown_of p wanted (before ++ seen) → enough wanted (length found) ≡ true
+      → found ≡ shown_of p wanted (before ++ (seen ++ row ∷ []))
+  collected_enough wanted before seen row found so_far many =
+      so_far ∙ sym (shown_enough wanted (before ++ seen) (row ∷ []) (subst (λ (l : List (List Value)). enough wanted (length l) ≡ true) so_far many)) ∙ ap (shown_of p wanted) (append_assoc before seen (row ∷ []))
 
   pub shown_none : (wanted : Option ℕ) → shown_of p wanted [] ≡ []
   shown_none None = refl

@@ -20,7 +20,7 @@ use crate::values::{in_columns, passes_all};
 use crate::window::{Part, Width, Window};
 use key_space::{Key, Range};
 use plain_model::{RowCalls, Stop};
-use row_types::Row;
+use row_types::{Items, Row};
 use sql_check::SelectPlan;
 use std::alloc::Global;
 use std::collections::VecDeque;
@@ -31,14 +31,14 @@ fn collect_last(
     alloc: Global,
     p: &SelectPlan,
     wanted: u64,
-    piece: &[Row],
+    piece: Items<Row>,
     found: &mut VecDeque<Row>,
 ) -> Result<(), OutOfMemory>
     ensures { (before : Rows) → found.old.items ≡ last_shown p.now wanted before
-        → OnOk result (found.new.items ≡ last_shown p.now wanted (before ++ piece.now)) }
+        → OnOk result (found.new.items ≡ last_shown p.now wanted (before ++ piece)) }
 {
-    for row in piece {
-        if passes_all(p.conditions.as_slice(), row) {
+    for row in piece.into_vec() {
+        if passes_all(p.conditions.as_slice(), &row) {
             found.push_front(in_columns(alloc, p.columns.as_slice(), row)?)?;
             found.truncate(wanted as usize);
         }
@@ -68,7 +68,7 @@ fn last_in<R: RowCalls>(
     let mut rest = window;
     loop {
         let piece = rows.chunk(p.table, rest)?;
-        collect_last(alloc, p, wanted, piece.rows.as_slice(), &mut found)?;
+        collect_last(alloc, p, wanted, piece.rows, &mut found)?;
         let Some(more) = rest.behind(piece.upto) else {
             return Ok(Window::Whole(found));
         };

@@ -36,17 +36,15 @@ fn collect(
     alloc: Global,
     p: &SelectPlan,
     wanted: Option<u64>,
-    piece: &[Row],
+    piece: Items<Row>,
     found: &mut Vec<Row>,
 ) -> Result<(), OutOfMemory>
     ensures { (before : Rows) → found.old.items ≡ shown_of p.now wanted before
-        → OnOk result (found.new.items ≡ shown_of p.now wanted (before ++ piece.now)) }
+        → OnOk result (found.new.items ≡ shown_of p.now wanted (before ++ piece)) }
 {
-    for row in piece {
-        if is_enough(wanted, found.as_slice().len()) {
-            return Ok(());
-        }
-        if passes_all(p.conditions.as_slice(), row) {
+    for row in piece.into_vec() {
+        let is_wanted = !is_enough(wanted, found.as_slice().len());
+        if is_wanted && passes_all(p.conditions.as_slice(), &row) {
             found.push(in_columns(alloc, p.columns.as_slice(), row)?)?;
         }
     }
@@ -72,7 +70,7 @@ fn found_in<R: RowCalls>(
     let mut rest = range;
     loop {
         let piece = rows.chunk(p.table, rest)?;
-        collect(alloc, p, wanted, piece.rows.as_slice(), &mut found)?;
+        collect(alloc, p, wanted, piece.rows, &mut found)?;
         let Some(more) = rest.behind(piece.upto) else {
             return Ok(found);
         };

@@ -1,5 +1,5 @@
 // What the tests and expressions of a plan come to on a row, by the numbers of its columns.
-ghost use Rattle.std.specs.Prelude.{◌≡◌, map, IfOk, unwrap_or};
+ghost use Rattle.std.specs.Prelude.{◌≡◌, ◌≢◌, ℕ, map, IfOk, unwrap_or};
 ghost use Rattle.std.specs.Bool.{then_some};
 ghost use Rattle.plain_model.specs.Values.{fits_int, value_at};
 ghost use Rattle.plain_model.specs.PlanMeaning.{text_at, test_holds, passes_all, int_value, int_stepped};
@@ -12,6 +12,7 @@ use plain_model::allows;
 use row_types::{Items, Row, Text, TryCopy, Value, int_at};
 use sql_check::{Assignment, IntStep, IntTerm, Test, TextTerm};
 use std::alloc::Global;
+use std::mem::replace;
 
 /// The text at a place of a row, empty where no such stands.
 fn text_at(row: &Row, column: u8) -> &str
@@ -146,22 +147,46 @@ pub(crate) fn planned_row(
 }
 
 /// The value of a row in a column, 0 where it has none.
-fn value_at(row: &Row, column: u8) -> Result<Value, OutOfMemory>
+fn value_at(row: &[Value], column: u8) -> Result<Value, OutOfMemory>
     ensures { IfOk result (λ value. value ≡ value_at row.now column) }
 {
-    match row.as_slice().get(column as usize) {
+    match row.get(column as usize) {
         Some(value) => value.copy(),
         None => Ok(Value::Int(0)),
     }
 }
 
-/// The values of a row in these columns.
-pub(crate) fn in_columns(alloc: Global, columns: &[u8], row: &Row) -> Result<Row, OutOfMemory>
-    ensures { IfOk result (λ values. values ≡ in_columns columns.now row.now) }
+/// Takes the value in a column out of a row. All others stay.
+fn taken(row: &mut [Value], column: u8) -> Value
+    ensures value { result ≡ value_at row.old column }
+    ensures others { (other : ℕ) → other ≢ column → value_at row.new other ≡ value_at row.old other }
 {
+    let column = column as usize;
+    if row.len() <= column {
+        return Value::Int(0);
+    }
+    replace(&mut row[column], Value::Int(0))
+}
+
+/// The value of a row in a column, which is moved out of it unless the column is among the later ones.
+fn next_value(row: &mut [Value], column: u8, later: &[u8]) -> Result<Value, OutOfMemory>
+    ensures value { IfOk result (λ value. value ≡ value_at row.old column) }
+    ensures later { map (value_at row.new) later.now ≡ map (value_at row.old) later.now }
+{
+    if later.contains(&column) {
+        return value_at(row, column);
+    }
+    Ok(taken(row, column))
+}
+
+/// The values of a row in these columns.
+pub(crate) fn in_columns(alloc: Global, columns: &[u8], row: Row) -> Result<Row, OutOfMemory>
+    ensures { IfOk result (λ values. values ≡ in_columns columns.now row) }
+{
+    let mut row = row.into_vec();
     let mut values = Vec::with_capacity(alloc, columns.len())?;
-    for column in columns {
-        values.push(value_at(row, *column)?)?;
+    for (i, column) in columns.iter().enumerate() {
+        values.push(next_value(&mut row, *column, &columns[i + 1..])?)?;
     }
     Ok(Items::from_vec(values))
 }

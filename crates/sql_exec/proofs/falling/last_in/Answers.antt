@@ -37,7 +37,7 @@ returns-in_default-clause-read g c =
     let so_far = c.loop-found.invariant.so_far in
     let told = c.in_ok-piece.ensures.told in
     ends_reading so_far told (Whole c.collect_last.new.found)
-    (read_whole so_far told c.in_ok-piece.ensures.low (λ rows. c.collect_last.new.found.items ≡ last_shown p c.args.wanted rows) (λ before e. c.in_ok-collect_last.ensures before e ∙ ap (λ (l : Rows). last_shown p c.args.wanted (before ++ l)) c.as_slice.ensures) (c.behind.ensures.none c.in_default.is))
+    (read_whole so_far told c.in_ok-piece.ensures.low (λ rows. c.collect_last.new.found.items ≡ last_shown p c.args.wanted rows) c.in_ok-collect_last.ensures (c.behind.ensures.none c.in_default.is))
 
 pub returns-in-Some-narrower-clause-read : goal.returns-in-Some-narrower-clause-read
 returns-in-Some-narrower-clause-read g c =
@@ -57,6 +57,6 @@ loop-found-preserved g c =
     let so_far = c.loop-found.invariant.so_far in
     let behind = c.in-Some.more in record {
       schema = c.in_ok-piece.ensures.schema ∙ c.loop-found.invariant.schema;
-      so_far = reads_on so_far c.in_ok-piece.ensures.told c.in_ok-piece.ensures.low (λ rows. c.collect_last.new.found.items ≡ last_shown p c.args.wanted rows) (λ before e. c.in_ok-collect_last.ensures before e ∙ ap (λ (l : Rows). last_shown p c.args.wanted (before ++ l)) c.as_slice.ensures)
+      so_far = reads_on so_far c.in_ok-piece.ensures.told c.in_ok-piece.ensures.low (λ rows. c.collect_last.new.found.items ≡ last_shown p c.args.wanted rows) c.in_ok-collect_last.ensures
           behind (behind_is c.loop-found.rest behind c.in_ok-piece.piece.upto.number (sym c.behind.ensures.value ∙ c.in-Some.is));
     }

@@ -35,7 +35,7 @@ returns-in_default-clause-read g c =
     let so_far = c.loop-found.invariant.so_far in
     let told = c.in_ok-piece.ensures.told in
     ends_reading so_far told c.collect.new.found
-    (read_whole so_far told c.in_ok-piece.ensures.low (λ rows. c.collect.new.found.items ≡ shown_of p c.args.wanted rows) (λ before e. c.in_ok-collect.ensures before e ∙ ap (λ (l : Rows). shown_of p c.args.wanted (before ++ l)) c.as_slice.ensures) (c.behind.ensures.none c.in_default.is))
+    (read_whole so_far told c.in_ok-piece.ensures.low (λ rows. c.collect.new.found.items ≡ shown_of p c.args.wanted rows) c.in_ok-collect.ensures (c.behind.ensures.none c.in_default.is))
 
 pub returns-then-is_enough-clause-read : goal.returns-then-is_enough-clause-read
 returns-then-is_enough-clause-read g c =
@@ -47,7 +47,7 @@ returns-then-is_enough-clause-read g c =
     let upto = c.in_ok-piece.piece.upto.number in
     let found : Rows = c.collect.new.found.items in
     let asked : c.is_enough.result ≡ enough c.args.wanted (length found) = search rules in
-    let more = read_piece so_far told c.in_ok-piece.ensures.low (λ rows. found ≡ shown_of p c.args.wanted rows) (λ before e. c.in_ok-collect.ensures before e ∙ ap (λ (l : Rows). shown_of p c.args.wanted (before ++ l)) c.as_slice.ensures) in
+    let more = read_piece so_far told c.in_ok-piece.ensures.low (λ rows. found ≡ shown_of p c.args.wanted rows) c.in_ok-collect.ensures in
     ends_reading so_far told c.collect.new.found
     (on_ordered defs p.table _ _ (g.R.RowCalls.calls c.args.rows.now) (g.R.RowCalls.calls c.chunk.new.self) (forward_since _ _ (piece_forward so_far told))
     (λ r order e. enough_found defs p.table range.lo.number upto range.hi.number p c.args.wanted found r (omega (arith, so_far.low, c.in_ok-piece.ensures.low)) (omega (arith, c.in_ok-piece.ensures.high, so_far.high)) order e (sym asked ∙ c.if-is_enough.true)) more)
@@ -58,6 +58,6 @@ loop-found-preserved g c =
     let so_far = c.loop-found.invariant.so_far in
     let behind = c.in-Some.more in record {
       schema = c.in_ok-piece.ensures.schema ∙ c.loop-found.invariant.schema;
-      so_far = reads_on so_far c.in_ok-piece.ensures.told c.in_ok-piece.ensures.low (λ rows. c.collect.new.found.items ≡ shown_of p c.args.wanted rows) (λ before e. c.in_ok-collect.ensures before e ∙ ap (λ (l : Rows). shown_of p c.args.wanted (before ++ l)) c.as_slice.ensures)
+      so_far = reads_on so_far c.in_ok-piece.ensures.told c.in_ok-piece.ensures.low (λ rows. c.collect.new.found.items ≡ shown_of p c.args.wanted rows) c.in_ok-collect.ensures
           behind (behind_is c.loop-found.rest behind c.in_ok-piece.piece.upto.number (sym c.behind.ensures.value ∙ c.in-Some.is));
     }
