@@ -5,6 +5,8 @@
 #[cfg(test)]
 mod disks;
 #[cfg(test)]
+mod lane_files;
+#[cfg(test)]
 mod lanes;
 #[cfg(test)]
 mod segments;
