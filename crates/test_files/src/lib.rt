@@ -1,7 +1,11 @@
-//! Tables of rows for what carries and keeps bytes: streams, disks and log lanes, what they are asked, and what has to
-//! come of it. They show what no clause says, above all that a call succeeds with ample memory.
+//! Tables of rows for what carries and keeps bytes: streams, disks, areas and log lanes, what they are asked, and
+//! what has to come of it. They show what no clause says, above all that a call succeeds with ample memory.
 #![tactic(auto)]
 
+#[cfg(test)]
+mod area_files;
+#[cfg(test)]
+mod areas;
 #[cfg(test)]
 mod disks;
 #[cfg(test)]

@@ -1,0 +1,9 @@
+pub mod Bodies
+pub mod Fronts
+pub mod Headers
+pub mod Holding
+pub mod Images
+pub mod Readings
+pub mod Rules
+pub mod Stops
+pub mod Written

@@ -1,0 +1,5 @@
+pub mod Area
+pub mod AreaRead
+pub mod Places
+pub mod Results
+pub mod Settings

@@ -1,0 +1,4 @@
+pub mod Crash
+pub mod Plans
+pub mod Put
+pub mod Writer
