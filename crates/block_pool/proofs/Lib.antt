@@ -1,1 +1,3 @@
+pub mod FlatLaws
 pub mod RegionLaws
+pub mod RunLaws

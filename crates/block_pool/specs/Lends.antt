@@ -1,10 +1,11 @@
--- What a pool is once the bytes of one of its blocks were lent for writing.
-use Rattle.std.specs.Prelude.{ℕ, List, Some, slice_set}
+-- What a pool is once bytes of its blocks were lent for writing.
+use Rattle.std.specs.Prelude.{ℕ, List, ◌++◌, take, drop}
 use Rattle.std.specs.Borrow.{Lends, MutBor, Fml, Array, u8}
 use Rattle.block_pool.specs.contracts.pool.Pool.{the_row}
 use Rattle.block_pool.specs.Blocks.{Blocks}
+use Rattle.block_pool.specs.Written.{written_over}
 
--- the block at this place has the bytes that were written last, and all others are as before
-abbrev pub LendsBlock : MutBor Blocks → ℕ → MutBor (List ℕ) → Fml
-LendsBlock pool block bytes =
-    Lends the_row (Array u8 4096) pool bytes (λ w. slice_set pool.now block (Some w))
+-- what was written last stands in the blocks from this place on, and all before are as they were
+abbrev pub LendsFrom : MutBor Blocks → ℕ → MutBor (List ℕ) → Fml
+LendsFrom pool at bytes =
+    Lends the_row (Array u8 0) pool bytes (λ w. take at pool.now ++ written_over w (drop at pool.now))

@@ -1,3 +1,5 @@
 pub mod Blocks
 pub mod Lends
 pub mod Region
+pub mod Runs
+pub mod Written

@@ -1,8 +1,13 @@
 -- How a pool keeps its blocks: which are out, the bytes of all, and the places of those that are free.
-use Rattle.std.specs.Prelude.{◌≡◌, ◌≢◌, ℕ, ◌+◌, ◌^◌, ◌<◌, Bool, false, cond, List, [], ◌∷◌, None, Some}
+use Rattle.std.specs.Prelude.{◌≡◌, ◌≢◌, ℕ, zero, suc, take, drop, ◌+◌, ◌^◌, ◌<◌, Bool, false, cond, List, [], ◌∷◌, None, Some}
 use Rattle.std.specs.Prelude.{length, get_or}
 use Rattle.std.specs.List.{count_by}
 use Rattle.block_pool.specs.Blocks.{Blocks}
+
+-- the first n blocks of bytes that stand one behind the other
+abbrev pub blocks_of : ℕ → List ℕ → List (List ℕ)
+blocks_of zero bytes = []
+blocks_of (suc n) bytes = take 4096 bytes ∷ blocks_of n (drop 4096 bytes)
 
 -- the entry of each block
 abbrev pub entries : List Bool → List (List ℕ) → Blocks

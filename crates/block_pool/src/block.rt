@@ -1,4 +1,5 @@
 // One block of a pool.
+use crate::pool::BLOCK;
 use std::marker::Model;
 
 /// A block that a pool gave out, seen as its place in the pool. It belongs to that pool, and goes back to
@@ -17,7 +18,7 @@ impl Model for Block {
 }
 
 impl Block {
-    ghost use Rattle.std.specs.Prelude.{◌≡◌, ◌<◌, ◌^◌};
+    ghost use Rattle.std.specs.Prelude.{◌≡◌, ◌<◌, ◌*◌, ◌^◌};
 
     pub(crate) fn at(place: u32) -> Block
         ensures { result ≡ place }
@@ -29,5 +30,13 @@ impl Block {
         ensures { result ≡ self.now }
     {
         self.place as usize
+    }
+
+    /// Where its bytes begin in the region.
+    pub(crate) fn start(&self) -> usize
+        ensures start { result ≡ 4096 * self.now }
+        ensures low { result < 2 ^ 44 }
+    {
+        BLOCK * self.place as usize
     }
 }

@@ -128,6 +128,13 @@ page_written pool page now xor lent new offset p out new-is b h n t o =
     subst (λ s. IsPage (set pool page.block (Some s)) now) is
     (page_toggled pool page now xor offset p b h n t o)
 
+pub page_after : (pool after : Blocks) (page now : PageState) (xor lent new : List ℕ) (offset : ℕ)
+    → IsPage pool page → Holds pool page.block lent → new ≡ toggled (byte_from offset) lent xor → after ≡ set pool page.block (Some new)
+    → now.block ≡ page.block → now.held ≡ page.held → now.len ≡ page.len → now.taken ≤ page.taken
+    → ((k : ℕ) → k < now.taken → (k * page.len < offset) ⊎ (offset + length xor ≤ k * page.len)) → IsPage after now
+page_after pool after page now xor lent new offset p out new-is is b h n t o =
+    subst (λ s. IsPage s now) (sym is) (page_written pool page now xor lent new offset p out new-is b h n t o)
+
 -- a page over a block that was free
 pub page_made : (before after : Blocks) (page : PageState) (bytes : List ℕ) → IsFree before page.block
     → after ≡ set before page.block (Some bytes) → length bytes ≡ 4096 → page.held ≡ none_held

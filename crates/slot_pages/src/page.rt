@@ -2,7 +2,7 @@
 ghost use Rattle.std.specs.Prelude.{◌≡◌};
 ghost use Rattle.slot_pages.specs.State.{none_held};
 
-use crate::bytes::{copy, toggle};
+use crate::bytes::{put, toggle_block};
 use crate::free::{PAGE, SLOTS, first_free, still_taken, taken_from};
 use block_pool::{Block, Pool, PoolFull};
 use row_types::Schema;
@@ -125,7 +125,7 @@ impl Page {
         ensures same { OnErr result (pool.new ≡ pool.old) }
     {
         let block = pool.take()?;
-        copy(pool.bytes_mut(&block), bytes);
+        put(pool, &block, bytes);
         Ok(Page {
             block,
             table,
@@ -250,7 +250,7 @@ impl Page {
         ensures known { (k : ℕ) → k < self.old.taken
             → LiesOutside self.old.len offset (length xor.now) k → k < self.new.taken }
     {
-        toggle(pool.bytes_mut(&self.block), offset as usize, xor);
+        toggle_block(pool, &self.block, offset, xor);
         self.stamp += 1;
         self.taken = still_taken(
             self.taken as usize,

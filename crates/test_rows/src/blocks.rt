@@ -27,6 +27,33 @@ fn a_pool_gives_out_as_many_blocks_as_it_has(rt: HostRuntime) -> Result<(), Fail
     Ok(())
 }
 
+/// What a second run of three blocks out of five is refused with, how many blocks can be taken then, and what a
+/// further one is refused with.
+fn behind_a_run(
+    alloc: std::alloc::Global,
+) -> Result<(Option<PoolFull>, u32, Option<PoolFull>), Fail> {
+    let mut pool = Pool::new(alloc, 5)?;
+    if pool.take_run(3).is_err() {
+        return Err(Fail::from("no run"));
+    }
+    let refused = pool.take_run(3).err();
+    let mut taken = 0u32;
+    for _ in 0..2 {
+        if pool.take().is_ok() {
+            taken = taken.saturating_add(1);
+        }
+    }
+    Ok((refused, taken, pool.take().err()))
+}
+
+#[test]
+fn a_run_leaves_the_blocks_behind_it(rt: HostRuntime) -> Result<(), Fail> {
+    let few = PoolFull { used: 3, limit: 5 };
+    let none = PoolFull { used: 5, limit: 5 };
+    assert_eq!(rt; behind_a_run(rt.alloc())?, (Some(few), 2, Some(none)));
+    Ok(())
+}
+
 #[test]
 fn numbers_stand_with_the_lowest_byte_first(rt: HostRuntime) {
     let mut bytes = [9u8; 10];

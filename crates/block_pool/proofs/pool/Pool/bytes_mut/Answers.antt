@@ -1,23 +1,37 @@
-use Rattle.std.proofs.Common.{ap, set, ◌∙◌, arith, refl, rules}
-use Rattle.block_pool.proofs.RegionLaws.{out_of, read_of, written_of}
-use Rattle.block_pool.specs.Region.{entries}
+use Rattle.std.proofs.Common.{arith, rules, ◌≡◌, ◌≤◌, ◌++◌, ◌*◌, ◌+◌, ◌-◌, ◌∙◌, ap, ap₂, refl, sym, subst, ℕ, List, take, drop, length}
+use Rattle.std.proofs.lemmas.List.{length-take, length-drop}
+use Rattle.block_pool.specs.Region.{blocks_of, entries}
+use Rattle.block_pool.specs.Written.{written_over}
+use Rattle.block_pool.proofs.FlatLaws.{kept_lent, lies_inside, stands_there, lent_from}
 use Rattle.block_pool.proofs.pool.Pool.bytes_mut.Goals as goal
 
-pub index_mut-requires : goal.index_mut-requires
-index_mut-requires c =
-    let out = out_of c.self.inside.outs.items c.self.inside.region.items c.args.self.now c.args.block.now _ c.self.invariant.0.whole c.self.view_is c.requires.1 in
-    omega (arith, out.0, c.place.ensures, c.self.invariant.0.whole, c.self.inside.region.ok.0)
+pub slice_mut-requires-clause-in_bounds : goal.slice_mut-requires-clause-in_bounds
+slice_mut-requires-clause-in_bounds c =
+    let less = lies_inside c.self.inside.outs.items c.self.inside.region.items c.args.self.now c.args.block.now _ c.self.invariant.2 c.self.view_is c.requires.1 in
+    omega (arith, less.1, c.start-at.ensures.start, c.self.inside.region.ok.0)
+
+pub invariant_of-self-lent : goal.invariant_of-self-lent
+invariant_of-self-lent c = λ w.
+    let less = lies_inside c.self.inside.outs.items c.self.inside.region.items c.args.self.now c.args.block.now _ c.self.invariant.2 c.self.view_is c.requires.1 in
+    let kept = kept_lent c.self.inside.outs.items c.self.inside.region.items c.self.inside.free.items c.self.inside.region.len c.start-at.result w c.self.invariant.0 c.self.invariant.2 (omega (arith, c.self.inside.region.ok.0)) (omega (arith, less.1, c.start-at.ensures.start)) in
+    (kept.0, c.self.invariant.1, kept.1)
 
 pub returns : goal.returns
-returns c = (
-  (
-    refl,
-    λ w.
-        ap (λ p. entries c.self.inside.outs.items (set c.self.inside.region.items p w)) c.place.ensures
-        ∙ written_of c.self.inside.outs.items c.self.inside.region.items c.args.self.now c.args.block.now _ w c.self.invariant.0.whole c.self.view_is c.requires.1,
-  ),
-  record {
-    writes_back = tt;
-    bytes = read_of c.self.inside.outs.items c.self.inside.region.items c.args.self.now c.args.block.now _ c.index_mut.result.now c.self.invariant.0.whole c.self.view_is c.requires.1 (search rules);
-  },
-)
+returns c =
+    let outs = c.self.inside.outs.items in
+    let region = c.self.inside.region.items in
+    let block = c.args.block.now in
+    let less = lies_inside outs region c.args.self.now block _ c.self.invariant.2 c.self.view_is c.requires.1 in
+    let len : c.self.inside.region.len ≡ length region = omega (arith, c.self.inside.region.ok.0) in
+    let size : c.start-at.result + 4096 - c.start-at.result ≡ 4096 = omega (arith) in
+    let as_written = λ (w : List ℕ) (n at : ℕ).
+    entries outs (blocks_of (length outs) (take n (take at region ++ (w ++ drop (length w) (drop at region)) ++ drop (length (take at region ++ (w ++ drop (length w) (drop at region)))) region))) in
+    let there : c.slice_mut.result.now ≡ take 4096 (drop (4096 * block) region) =
+    c.slice_mut.ensures.value ∙ ap₂ (λ (n at : ℕ). take n (drop at region)) size c.start-at.ensures.start in (
+      (refl, λ w. ap₂ (as_written w) len c.start-at.ensures.start ∙ lent_from outs region c.args.self.now block w c.self.invariant.2 c.self.view_is (omega (arith, less.0))),
+      record {
+        writes_back = tt;
+        bytes = stands_there outs region c.args.self.now block _ _ c.self.invariant.2 c.self.view_is c.requires.1 there;
+        len = ap length there ∙ omega (arith, length-take 4096 (drop (4096 * block) region), length-drop (4096 * block) region, less.1);
+      },
+    )
