@@ -4,3 +4,7 @@ pub mod Deltas
 pub mod Views
 pub mod Restart
 pub mod Laws
+pub mod Segments
+pub mod Items
+pub mod Windows
+pub mod Readers
